@@ -1,0 +1,115 @@
+#!/usr/bin/env python3
+"""The independent program: chains by brute force from the definition, to hold the proved programs to.
+
+It shares no code and no algorithm with the crates: chains are searched for from the largest part down, by divisibility of the
+values; a word is the walk itself, point by point; the dictionary order is that of text. No table, no recursion by remainders.
+
+    independent.py WHAT        writes what the test program of that name must print (or, for WHAT-stdin, what it must be given)
+    independent.py             lists the WHATs
+"""
+import itertools
+import re
+import sys
+
+LIMIT = 2**64
+POINTS = [(a, b) for a in range(64) for b in range(41) if 2**a * 3**b < LIMIT]
+VALUE = {p: 2 ** p[0] * 3 ** p[1] for p in POINTS}
+TABLE = sorted(POINTS, key=lambda p: VALUE[p])
+NUMBER = {p: i for i, p in enumerate(TABLE)}
+
+
+def chains_up_to(most):
+    """All chains of 0 to `most`, as lists of points, largest part first."""
+    found = [[] for _ in range(most + 1)]
+    small = [p for p in TABLE if VALUE[p] <= most]
+
+    def extend(chain, total):
+        found[total].append(chain)
+        last = VALUE[chain[-1]]
+        for q in small:
+            v = VALUE[q]
+            if v >= last or total + v > most:
+                break
+            if last % v == 0:
+                extend(chain + [q], total + v)
+
+    found[0].append([])
+    for p in small:
+        extend([p], VALUE[p])
+    return found
+
+
+def word_of(chain):
+    """The walk from (0, 0) to the largest part through all parts, b before a wherever the parts allow both."""
+    if not chain:
+        return ""
+    here, letters, waiting = (0, 0), "", sorted(chain)
+    while True:
+        is_part = here == waiting[0]
+        if is_part:
+            waiting = waiting[1:]
+        if not waiting:
+            return letters + "3"
+        if here[1] < waiting[0][1]:
+            letters += "3" if is_part else "2"
+            here = (here[0], here[1] + 1)
+        else:
+            letters += "1" if is_part else "0"
+            here = (here[0] + 1, here[1])
+
+
+def good(word):
+    """Document 01's sentence, on text."""
+    if word == "":
+        return True
+    return re.fullmatch("[0-3]*3", word) is not None and "02" not in word and "12" not in word
+
+
+def listing(most):
+    """For each n to `most`: its chains with their words, in dictionary order."""
+    return [sorted((word_of(c), c) for c in chains) for chains in chains_up_to(most)]
+
+
+def maxima(counts):
+    """The first maxima: (n, count) wherever the count passes all counts before it."""
+    top, found = 1, []
+    for n, w in enumerate(counts):
+        if w > top:
+            top = w
+            found.append((n, w))
+    return found
+
+
+def check_003():
+    """What 003 and document 01 print, against the brute force."""
+    lists = listing(400)
+    counts = [len(l) for l in lists]
+    assert maxima(counts)[:11] == list(
+        zip([3, 9, 21, 27, 57, 81, 165, 171, 243, 333, 345], [2, 4, 5, 7, 10, 13, 17, 19, 21, 22, 25])
+    )
+    assert [w for w, _ in lists[19]] == "11003 1133 3013 3203".split()
+    assert [w for w, _ in lists[27]] == "11013 13003 1333 21003 2133 2213 2223".split()
+    assert [counts[n] for n in (0, 1, 3, 5, 6, 9, 19, 21, 27)] == [1, 1, 2, 1, 2, 4, 4, 5, 7]
+    assert min(len(c) for _, c in lists[29]) == 3
+    assert len(TABLE) == 1344 and [VALUE[p] for p in TABLE[:14]] == [1, 2, 3, 4, 6, 8, 9, 12, 16, 18, 24, 27, 32, 36]
+    for n, entries in enumerate(lists):
+        assert all(good(w) for w, _ in entries) and len({w for w, _ in entries}) == len(entries)
+
+
+WHATS = {}
+
+
+def what(f):
+    WHATS[f.__name__.replace("_", "-")] = f
+    return f
+
+
+def main():
+    if len(sys.argv) != 2 or sys.argv[1] not in WHATS:
+        sys.exit(__doc__ + "\nWHAT: " + " ".join(sorted(WHATS)))
+    check_003()
+    sys.stdout.write("".join(line + "\n" for line in WHATS[sys.argv[1]]()))
+
+
+if __name__ == "__main__":
+    main()
