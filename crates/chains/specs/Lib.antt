@@ -2,12 +2,18 @@
 --
 -- What a reader must believe, in this order: Chains (parts, chains), Words (path words), Listing (the list of n, positions),
 -- Best (price, limits, the best chain). The rest is theory:
---   Steps     the step law of the list, and induction from the half and the third
---   Weight    the number that a word stands for
---   Readers   the two readers take exactly the good words
---   Order     the dictionary order
---   Divides   a proper multiple by value is one by exponents
---   Counts    the six relations of the count, and its bounds
+--   Steps      the step law of the list, and induction from the half and the third
+--   Weight     the number that a word stands for
+--   Readers    the two readers take exactly the good words
+--   Order      the dictionary order
+--   Members    what the list of n holds, and that it ascends
+--   Divides    a proper multiple by value is one by exponents
+--   RoundTrip  chains and good words lead to each other and back
+--   Listed     the list of n in terms of chains
+--   Rest       the rest at a point is the floor of n by the point's value
+--   Bounds     how many letters and parts a number below 2^k allows
+--   Counts     the six relations of the count, and its bounds
+--   Checked    the checked numbers of document 01
 pub mod Chains
 pub mod Words
 pub mod Listing
@@ -16,5 +22,11 @@ pub mod Steps
 pub mod Weight
 pub mod Readers
 pub mod Order
+pub mod Members
 pub mod Divides
+pub mod RoundTrip
+pub mod Listed
+pub mod Rest
+pub mod Bounds
 pub mod Counts
+pub mod Checked
