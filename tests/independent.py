@@ -39,6 +39,27 @@ def chains_up_to(most):
     return found
 
 
+def chains_of(n):
+    """All chains of one n: the largest part, then each proper divisor that still leaves a sum of n within reach."""
+    found = []
+
+    def extend(chain, left):
+        if left == 0:
+            found.append(chain)
+            return
+        last = VALUE[chain[-1]] if chain else None
+        for q in TABLE:
+            v = VALUE[q]
+            if v > left or (last is not None and v >= last):
+                break
+            # what is left after q is a sum of proper divisors of v, which is below v
+            if left - v < v and (last is None or last % v == 0):
+                extend(chain + [q], left - v)
+
+    extend([], n)
+    return found
+
+
 def word_of(chain):
     """The walk from (0, 0) to the largest part through all parts, b before a wherever the parts allow both."""
     if not chain:
@@ -102,6 +123,15 @@ WHATS = {}
 def what(f):
     WHATS[f.__name__.replace("_", "-")] = f
     return f
+
+
+@what
+def test_plain():
+    """Counts of 0 to 2,000; 65,536 and 2^64 - 1 are refused as 12; the count of 65,535, by listing its chains alone."""
+    yield from (str(len(chains)) for chains in chains_up_to(2000))
+    yield "12"
+    yield "12"
+    yield str(len(chains_of(65535)))
 
 
 def main():
