@@ -3,7 +3,7 @@
 --
 -- In this order: `ways`, how many words a reader can go on with at a rest; its step laws, with no list in them, one for each
 -- remainder by three; the bounds; the six relations of the count, the theorems of record.
--- What the list of n holds is said in List. The count itself is defined in Listing.
+-- What the list of n holds is said in Members. The count itself is defined in Listing.
 use mathlib.Core.Path.{_≡_, refl, _∙_}
 use mathlib.Core.Logic.{_≢_}
 use mathlib.Core.Bool.{Bool, true, false}

@@ -10,6 +10,8 @@
 --   Divides    a proper multiple by value is one by exponents
 --   RoundTrip  chains and good words lead to each other and back
 --   Listed     the list of n in terms of chains
+--   Positions  the word at a position, a word's position, and the walks that find them
+--   PositionsOfChains  the same of chains
 --   Rest       the rest at a point is the floor of n by the point's value
 --   Bounds     how many letters and parts a number below 2^k allows
 --   Counts     the six relations of the count, and its bounds
@@ -26,6 +28,8 @@ pub mod Members
 pub mod Divides
 pub mod RoundTrip
 pub mod Listed
+pub mod Positions
+pub mod PositionsOfChains
 pub mod Rest
 pub mod Bounds
 pub mod Counts

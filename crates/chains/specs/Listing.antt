@@ -1,5 +1,6 @@
 -- The list of n, its count, and positions in it: document 01, 'Path words' and 'Services and memory'.
--- Definitions only. List says what the list of n holds and that it ascends; Positions that a position leads to its chain and back.
+-- Definitions only. Members says what the list of n holds and that it ascends, PositionsOfChains that a position leads to its chain
+-- and back.
 use mathlib.Core.Bool.{Bool, true, false, _&&_, _||_}
 use mathlib.Core.List.{List, [], _∷_, _++_, map}
 use Prim.Native.Nat.{ℕ, zero, suc, _+_, _/_, _%_}

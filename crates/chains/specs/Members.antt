@@ -1,15 +1,17 @@
 -- What the list of n holds, and that it ascends.
--- In order: the step law with both rises written as a letter before each word of a list (`words-step`); which words the list at a rest
--- holds (`member-words`), for both readers, and so what the list of n holds (`list-holds`); that it ascends (`list-ascends`).
+-- In order: the step law with both rises written as a letter before each word of a list (`words-step`); which words the list at a
+-- rest holds (`member-words`), for both readers, and so what the list of n holds (`list-holds`); that it ascends (`list-ascends`).
 -- Positions in the list are in Positions.
 use mathlib.Core.Path.{_≡_, refl, ap, _∙_}
 use mathlib.Core.Logic.{_↔_, _⊎_, inl, inr, ⊎-elim, Iff·trans, Iff·and, Iff·rfl}
 use mathlib.Core.Bool.{Bool, true, false, _&&_}
-use mathlib.Core.List.{List, [], _∷_, _++_, map, List·Memᴰ, List·Memᴰ·head, List·Memᴰ·tail, List·Memᴰ·not-nil, List·Memᴰ·eq-of-singleton}
-use mathlib.Core.List.{Memᴰ·cast, Memᴰ·map, Memᴰ·of-map, Memᴰ·append-left, Memᴰ·append-right, List·Memᴰ·append-cases}
+use mathlib.Core.List.{List, [], _∷_, _++_, map, List·Memᴰ, List·Memᴰ·head, List·Memᴰ·tail}
+use mathlib.Core.List.{List·Memᴰ·not-nil, List·Memᴰ·eq-of-singleton, List·Memᴰ·append-cases}
+use mathlib.Core.List.{Memᴰ·cast, Memᴰ·map, Memᴰ·of-map, Memᴰ·append-left, Memᴰ·append-right}
 use Prim.Native.Nat.{ℕ, zero, suc, _+_, _/_, _%_, _<_}
 use native.Mathlib.Omega.{arith}
 use lib.Dec.{T}
+use lib.Ieee.Fits.{and-i, and-l, and-r}
 use lib.ListN.{length, getD}
 use Rattle.chains.specs.Chains.{total}
 use Rattle.chains.specs.Words.{Word, Good, someLeft, reads, chainOf}
@@ -83,7 +85,7 @@ member-under x l w s = (down, λ o. Memᴰ·cast (ap (λ (y : ℕ). y ∷ w) (o 
         let e : l ∷ o .0 ≡ x ∷ w = o .2 in
         (cc, Memᴰ·cast (cc) (o .1))
 
-member-kept : (b : Bool) (w : Word) (t : List Word) → List·Memᴰ w (kept b t) ↔ (T b × List·Memᴰ w t)
+pub member-kept : (b : Bool) (w : Word) (t : List Word) → List·Memᴰ w (kept b t) ↔ (T b × List·Memᴰ w t)
 unfolding kept
 member-kept true w t = (λ i. (tt, i), λ i. i .1)
 member-kept false w t = (λ i. absurd (List·Memᴰ·not-nil i), λ i. absurd (i .0))
@@ -115,10 +117,6 @@ empty-branches x y b h t i = ⊎-elim (none x h) (none y (kept b t)) (List·Mem�
     none : (l : ℕ) (s : List Word) → List·Memᴰ [] (under l s) → ⊥
     none l s j = omega (arith, ap length (Memᴰ·of-map (λ (v : Word). l ∷ v) s j .2))
 
-both : (a b : Bool) → T (a && b) ↔ (T a × T b)
-both true b = (λ t. (tt, t), λ t. t .1)
-both false b = (absurd, λ t. t .0)
-
 some-left : (w : Word) → 0 < weight w → T (someLeft w)
 unfolding weight someLeft
 some-left [] h = absurd (omega arith)
@@ -144,8 +142,8 @@ stands-cons f m l w h = (up, down l)
 
     third : (r : ℕ) → m % 3 ≡ r → T (rises f r) → Stands true (m / 3) w → Stands f m ((2 + r) ∷ w)
     third zero e t s =
-        let some = both (someLeft w) (reads true w) .1 (some-left w (omega arith), s .0) in
-        (both f (someLeft w && reads true w) .1 (t, some), omega arith)
+        let on = and-i (someLeft w) (reads true w) (some-left w (omega arith)) (s .0) in
+        (and-i f (someLeft w && reads true w) t on, omega arith)
     third (suc zero) e t s = (s .0, omega arith)
     third (suc (suc r)) e t s = absurd t
 
@@ -157,9 +155,9 @@ stands-cons f m l w h = (up, down l)
     down zero s = inl (omega arith, (s .0, omega arith))
     down (suc zero) s = inl (omega arith, (s .0, omega arith))
     down (suc (suc zero)) s =
-        let t = both f (someLeft w && reads true w) .0 (s .0) in
+        let on = and-r f (someLeft w && reads true w) (s .0) in
         let e : m % 3 ≡ 0 = omega arith in
-        inr (omega arith, rw e (t .0), (both (someLeft w) (reads true w) .0 (t .1) .1, omega arith))
+        inr (omega arith, rw e (and-l f (someLeft w && reads true w) (s .0)), (and-r (someLeft w) (reads true w) on, omega arith))
     down (suc (suc (suc zero))) s = let e : m % 3 ≡ 1 = omega arith in inr (omega arith, rw e tt, (s .0, omega arith))
     down (suc (suc (suc (suc x)))) s = absurd (s .0)
 
@@ -170,8 +168,9 @@ stands-zero [] f s = (s .0, refl)
 stands-zero (zero ∷ w) f s = absurd (stands-zero w false (s .0, omega arith) .0)
 stands-zero (suc zero ∷ w) f s = absurd (omega arith)
 stands-zero (suc (suc zero) ∷ w) f s =
-    let t = both (someLeft w) (reads true w) .0 (both f (someLeft w && reads true w) .0 (s .0) .1) in
-    absurd (rw (stands-zero w true (t .1, omega arith) .1) at (t .0))
+    let on = and-r f (someLeft w && reads true w) (s .0) in
+    let e = stands-zero w true (and-r (someLeft w) (reads true w) on, omega arith) .1 in
+    absurd (rw e at (and-l (someLeft w) (reads true w) on))
 stands-zero (suc (suc (suc zero)) ∷ w) f s = absurd (omega arith)
 stands-zero (suc (suc (suc (suc x))) ∷ w) f s = absurd (s .0)
 

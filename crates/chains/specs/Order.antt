@@ -1,17 +1,21 @@
 -- The dictionary order of Listing is a strict order in which any two words stand one before the other.
--- In order: two words by their first letters (`before-cons`, from which all else follows); no word stands before itself; what stands
--- before a word stands before all that the word stands before; two words are equal or one is before the other.
-use mathlib.Core.Path.{_≡_, refl, _∙_, subst}
+-- In order: two words by their first letters (`before-cons`, `before-same`, from which all else follows); no word stands before
+-- itself; what stands before a word stands before all that the word stands before; two words are equal or one is before the other.
+use mathlib.Core.Path.{_≡_, refl, _∙_}
 use mathlib.Core.Logic.{_↔_, _⊎_, inl, inr, ⊎-elim}
 use mathlib.Core.Bool.{Bool, true, false, _&&_, _||_}
 use mathlib.Core.List.{[], _∷_}
 use Prim.Native.Nat.{ℕ, _<_}
+use native.Mathlib.Nat.{le-refl}
 use native.Mathlib.Decide.{decLt}
 use native.Mathlib.Omega.{arith}
-use lib.Dec.{T, ltb, eqb, ltb→lt, lt→ltb, eqb→eq, eqb-refl}
+use borrow.Author.Tests.{le-ltb, eq-eqb}
+use lib.Dec.{T, ltb, eqb, ltb→lt, lt→ltb, eqb→eq}
+use lib.Ieee.Fits.{eq→eqb}
 use Rattle.chains.specs.Words.{Word}
 use Rattle.chains.specs.Listing.{before}
 
+-- The test that `before` makes at two letters, read as facts.
 by-tests : {P Q : Type 0} (a b c : Bool) → T a ↔ P → T b ↔ Q → T (a || (b && c)) ↔ (P ⊎ (Q × T c))
 by-tests true b c p q = (λ _. inl (p .0 tt), λ _. tt)
 by-tests {P} {Q} false true c p q = (λ t. inr (q .0 tt, t), ⊎-elim (λ (h : P). absurd (p .1 h)) (λ (h : Q × T c). h .1))
@@ -23,16 +27,17 @@ unfolding before
 before-cons x y u v =
     by-tests (ltb x y) (eqb x y) (before u v)
     (ltb→lt x y, lt→ltb x y)
-    (eqb→eq x y, λ e. subst (λ (k : ℕ). T (eqb x k)) e (eqb-refl x))
+    (eqb→eq x y, eq→eqb)
+
+-- The same first letter before both words makes no difference.
+pub before-same : (l : ℕ) (u v : Word) → before (l ∷ u) (l ∷ v) ≡ before u v
+unfolding before
+before-same l u v = rw (le-ltb l l (le-refl l), eq-eqb l l refl)
 
 pub before-irrefl : (w : Word) → T (before w w) → ⊥
 unfolding before
 before-irrefl [] t = t
-before-irrefl (x ∷ w) t =
-    ⊎-elim
-    (λ (h : x < x). absurd (omega arith))
-    (λ (h : (x ≡ x) × T (before w w)). before-irrefl w (h .1))
-    (before-cons x x w w .0 t)
+before-irrefl (x ∷ w) t = before-irrefl w (rw (before-same x w w) at t)
 
 pub before-trans : (u v w : Word) → T (before u v) → T (before v w) → T (before u w)
 unfolding before

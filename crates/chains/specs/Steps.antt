@@ -1,8 +1,8 @@
 -- The two workhorses of the theory: the step law of the list, with no count of steps in it, and induction from m / 2 and m / 3 to m.
 -- Nothing after them looks at how `wordsAt` counts its steps.
-use mathlib.Core.Path.{_≡_, refl, sym, ap₂, _∙_}
+use mathlib.Core.Path.{_≡_, refl, ap₂}
 use mathlib.Core.Bool.{Bool, true, false}
-use mathlib.Core.List.{List, []}
+use mathlib.Core.List.{List}
 use Prim.Native.Nat.{ℕ, zero, suc, _/_, _≤_, _<_}
 use native.Mathlib.Nat.{le-refl}
 use native.Mathlib.Omega.{arith}

@@ -1,0 +1,389 @@
+//! The same work in plain Rust, as one first writes it: a flat table, a division and an `if` a cell, no proof. What the proved
+//! services are measured against. It answers lines as `intake` does, so its replies can be compared too.
+
+pub const COLUMNS: usize = 64;
+pub const ROWS: usize = 41;
+pub const SCRATCH: usize = COLUMNS * ROWS * 2;
+const NONE: u64 = 1 << 40;
+pub type Table = [u64; SCRATCH];
+
+pub struct Tables {
+    pub pow3: Vec<u64>,
+    pub parts: Vec<u64>,
+    pub exponents: Vec<(usize, usize)>,
+}
+
+impl Tables {
+    pub fn new() -> Tables {
+        let pow3: Vec<u64> = (0..ROWS as u32).map(|b| 3u64.pow(b)).collect();
+        let mut all = Vec::new();
+        for b in 0..ROWS {
+            for a in 0..COLUMNS {
+                let v = (pow3[b] as u128) << a;
+                if v < 1 << 64 {
+                    all.push((v as u64, a, b));
+                }
+            }
+        }
+        all.sort();
+        Tables {
+            pow3,
+            parts: all.iter().map(|x| x.0).collect(),
+            exponents: all.iter().map(|x| (x.1, x.2)).collect(),
+        }
+    }
+
+    pub fn number(&self, a: usize, b: usize) -> u16 {
+        self.parts.binary_search(&(self.pow3[b] << a)).unwrap() as u16
+    }
+}
+
+fn cell(a: usize, b: usize, after_a: usize) -> usize {
+    (b * COLUMNS + a) * 2 + after_a
+}
+
+pub fn fill_counts(ts: &Tables, n: u64, t: &mut Table) {
+    for b in (0..ROWS).rev() {
+        let row = n / ts.pow3[b];
+        for a in (0..COLUMNS).rev() {
+            let m = row >> a;
+            if m == 0 {
+                continue;
+            }
+            let i = cell(a, b, 0);
+            if m == 1 {
+                t[i] = 1;
+                t[i + 1] = 1;
+                continue;
+            }
+            let half = t[i + 3];
+            let (mut free, mut after_a) = (half, half);
+            match m % 3 {
+                0 => free += t[i + 128],
+                1 => {
+                    free += t[i + 128];
+                    after_a = free;
+                }
+                _ => {}
+            }
+            t[i] = free;
+            t[i + 1] = after_a;
+        }
+    }
+}
+
+pub fn count(ts: &Tables, n: u64, t: &mut Table) -> u64 {
+    if n == 0 {
+        return 1;
+    }
+    fill_counts(ts, n, t);
+    t[0]
+}
+
+/// The word at a position below the count; the counts are in the table.
+fn word_at(ts: &Tables, n: u64, mut i: u64, t: &Table) -> Vec<u8> {
+    let mut word = Vec::new();
+    let (mut a, mut b) = (0, 0);
+    if n == 0 {
+        return word;
+    }
+    loop {
+        let m = (n / ts.pow3[b]) >> a;
+        if m == 1 {
+            word.push(3);
+            return word;
+        }
+        let half = t[cell(a + 1, b, 1)];
+        if i < half {
+            word.push((m % 2) as u8);
+            a += 1;
+        } else {
+            i -= half;
+            word.push(2 + (m % 3) as u8);
+            b += 1;
+        }
+    }
+}
+
+fn rank(ts: &Tables, n: u64, word: &[u8], t: &Table) -> u64 {
+    let (mut a, mut b, mut position) = (0, 0, 0);
+    for (i, &l) in word.iter().enumerate() {
+        if i + 1 == word.len() {
+            break;
+        }
+        if l < 2 {
+            a += 1;
+        } else {
+            if (n / ts.pow3[b]) >> a > 1 {
+                position += t[cell(a + 1, b, 1)];
+            }
+            b += 1;
+        }
+    }
+    position
+}
+
+/// The part numbers of a word, largest part first.
+fn numbers(ts: &Tables, word: &[u8]) -> Vec<u16> {
+    let (mut a, mut b, mut found) = (0, 0, Vec::new());
+    for &l in word {
+        if l % 2 == 1 {
+            found.push(ts.number(a, b));
+        }
+        if l < 2 {
+            a += 1;
+        } else {
+            b += 1;
+        }
+    }
+    found.reverse();
+    found
+}
+
+pub struct Chain {
+    pub n: u64,
+    pub position: u64,
+    pub numbers: Vec<u16>,
+    pub price: u64,
+}
+
+pub fn chain_at(ts: &Tables, n: u64, position: u64, t: &mut Table) -> Result<Chain, u8> {
+    if position >= count(ts, n, t) {
+        return Err(6);
+    }
+    let word = word_at(ts, n, position, t);
+    Ok(Chain { n, position, numbers: numbers(ts, &word), price: 0 })
+}
+
+pub struct Asked {
+    pub n: u64,
+    pub parts: u64,
+    pub a: usize,
+    pub b: usize,
+    pub d: u64,
+    pub t: u64,
+    pub s: u64,
+}
+
+fn fill_keys(ts: &Tables, q: &Asked, t: &mut Table) {
+    for b in (0..ROWS).rev() {
+        let row = q.n / ts.pow3[b];
+        for a in (0..COLUMNS).rev() {
+            let m = row >> a;
+            if m == 0 {
+                continue;
+            }
+            let i = cell(a, b, 0);
+            let (mut free, mut after_a) = (NONE, NONE);
+            if a <= q.a && b <= q.b {
+                if m == 1 {
+                    free = 1 << 32;
+                    after_a = free;
+                } else {
+                    if a < q.a && t[i + 3] < NONE {
+                        free = t[i + 3] + q.d + if m % 2 == 1 { (1 << 32) + q.s } else { 0 };
+                        after_a = free;
+                    }
+                    if b < q.b && m % 3 < 2 && t[i + 128] < NONE {
+                        if m % 3 == 1 {
+                            let k = t[i + 128] + q.t + (1 << 32) + q.s;
+                            free = free.min(k);
+                            after_a = after_a.min(k);
+                        } else {
+                            free = free.min(t[i + 128] + q.t);
+                        }
+                    }
+                }
+            }
+            t[i] = free;
+            t[i + 1] = after_a;
+        }
+    }
+}
+
+fn best_word(ts: &Tables, q: &Asked, t: &Table) -> Vec<u8> {
+    let mut word = Vec::new();
+    let (mut a, mut b, mut f) = (0, 0, 0);
+    loop {
+        let m = (q.n / ts.pow3[b]) >> a;
+        if m == 1 {
+            word.push(3);
+            return word;
+        }
+        let here = t[cell(a, b, f)];
+        let part = if m % 2 == 1 { (1 << 32) + q.s } else { 0 };
+        if a < q.a && t[cell(a + 1, b, 1)] + q.d + part == here {
+            word.push((m % 2) as u8);
+            a += 1;
+            f = 1;
+        } else {
+            word.push(2 + (m % 3) as u8);
+            b += 1;
+            f = 0;
+        }
+    }
+}
+
+pub fn best(ts: &Tables, q: &Asked, t: &mut Table) -> Result<Chain, u8> {
+    if q.n == 0 {
+        return Ok(Chain { n: 0, position: 0, numbers: Vec::new(), price: 0 });
+    }
+    fill_keys(ts, q, t);
+    let key = t[0];
+    if key >= NONE || key >> 32 > q.parts {
+        return Err(5);
+    }
+    let word = best_word(ts, q, t);
+    fill_counts(ts, q.n, t);
+    let position = rank(ts, q.n, &word, t);
+    Ok(Chain { n: q.n, position, numbers: numbers(ts, &word), price: key % (1 << 32) })
+}
+
+fn good(word: &[u8]) -> bool {
+    if word.is_empty() {
+        return true;
+    }
+    word.iter().all(|&l| l <= 3)
+        && word[word.len() - 1] == 3
+        && !word.windows(2).any(|p| p[0] < 2 && p[1] == 2)
+}
+
+fn weight(word: &[u8]) -> Option<u64> {
+    let mut v: u64 = 0;
+    for &l in word.iter().rev() {
+        v = v.checked_mul(if l < 2 { 2 } else { 3 })?.checked_add((l % 2) as u64)?;
+    }
+    Some(v)
+}
+
+fn read_word(ts: &Tables, word: &[u8], t: &mut Table) -> Result<Chain, u8> {
+    if !good(word) {
+        return Err(7);
+    }
+    let n = weight(word).ok_or(10)?;
+    if n > 0 {
+        fill_counts(ts, n, t);
+    }
+    Ok(Chain { n, position: rank(ts, n, word, t), numbers: numbers(ts, word), price: 0 })
+}
+
+fn read_record(ts: &Tables, numbers: &[u16], t: &mut Table) -> Result<Chain, u8> {
+    if numbers.len() > 64 || numbers.iter().any(|&i| i as usize >= ts.parts.len()) {
+        return Err(8);
+    }
+    let values: Vec<u64> = numbers.iter().map(|&i| ts.parts[i as usize]).collect();
+    if values.windows(2).any(|p| p[0] <= p[1] || p[0] % p[1] != 0) {
+        return Err(9);
+    }
+    let mut n: u64 = 0;
+    for v in &values {
+        n = n.checked_add(*v).ok_or(10)?;
+    }
+    let mut word = Vec::new();
+    let (mut a, mut b) = (0, 0);
+    for (k, &i) in numbers.iter().enumerate().rev() {
+        let (pa, pb) = ts.exponents[i as usize];
+        let from = word.len();
+        word.resize(from + pb - b, 2);
+        word.resize(from + pb - b + pa - a, 0);
+        if k + 1 < numbers.len() {
+            word[from] += 1;
+        }
+        a = pa;
+        b = pb;
+    }
+    if n > 0 {
+        word.push(3);
+        fill_counts(ts, n, t);
+    }
+    Ok(Chain { n, position: rank(ts, n, &word, t), numbers: numbers.to_vec(), price: 0 })
+}
+
+fn digits(out: &mut String, v: u64, bytes: usize) {
+    out.push_str(&format!("{:0w$X}", v, w = bytes * 2));
+}
+
+fn chain_reply(c: &Chain, price: bool) -> String {
+    let mut out = String::from("00");
+    digits(&mut out, c.n, 8);
+    digits(&mut out, c.position, 8);
+    digits(&mut out, c.numbers.len() as u64, 1);
+    for &i in &c.numbers {
+        digits(&mut out, i as u64, 2);
+    }
+    if price {
+        digits(&mut out, c.price, 4);
+    }
+    out
+}
+
+fn number(bytes: &[u8]) -> u64 {
+    bytes.iter().fold(0, |v, &x| v << 8 | x as u64)
+}
+
+fn answer(ts: &Tables, line: &[u8], t: &mut Table) -> Result<String, u8> {
+    if line.is_empty() || line.len() % 2 == 1 || line.len() > 514 {
+        return Err(2);
+    }
+    let mut values = Vec::new();
+    for &c in line {
+        values.push(match c {
+            b'0'..=b'9' => c - b'0',
+            b'A'..=b'F' => c - b'A' + 10,
+            _ => return Err(3),
+        });
+    }
+    let bytes: Vec<u8> = values.chunks(2).map(|p| p[0] * 16 + p[1]).collect();
+    let count_byte = if bytes.len() > 1 { bytes[1] as usize } else { 0 };
+    let length = match bytes[0] {
+        1 => 9,
+        2 => 18,
+        3 => 17,
+        4 => 2 + 2 * count_byte,
+        5 | 6 => 2 + count_byte,
+        _ => return Err(4),
+    };
+    if bytes.len() != length {
+        return Err(2);
+    }
+    let n = if bytes.len() >= 9 { number(&bytes[1..9]) } else { 0 };
+    match bytes[0] {
+        1 => {
+            let mut out = String::from("00");
+            digits(&mut out, count(ts, n, t), 8);
+            Ok(out)
+        }
+        2 => {
+            let q = Asked {
+                n,
+                parts: bytes[9] as u64,
+                a: bytes[10] as usize,
+                b: bytes[11] as usize,
+                d: number(&bytes[12..14]),
+                t: number(&bytes[14..16]),
+                s: number(&bytes[16..18]),
+            };
+            best(ts, &q, t).map(|c| chain_reply(&c, true))
+        }
+        3 => chain_at(ts, n, number(&bytes[9..17]), t).map(|c| chain_reply(&c, false)),
+        4 => {
+            let numbers: Vec<u16> = bytes[2..].chunks(2).map(|p| number(p) as u16).collect();
+            read_record(ts, &numbers, t).map(|c| chain_reply(&c, false))
+        }
+        5 => read_word(ts, &bytes[2..], t).map(|c| chain_reply(&c, false)),
+        _ => {
+            let c = read_word(ts, &bytes[2..], t)?;
+            if c.position + 1 >= count(ts, c.n, t) {
+                return Err(11);
+            }
+            chain_at(ts, c.n, c.position + 1, t).map(|c| chain_reply(&c, false))
+        }
+    }
+}
+
+pub fn reply(ts: &Tables, line: &[u8], t: &mut Table) -> String {
+    match answer(ts, line, t) {
+        Ok(out) => out,
+        Err(r) => format!("{:02X}", r),
+    }
+}
