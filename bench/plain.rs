@@ -4,6 +4,8 @@
 pub const COLUMNS: usize = 64;
 pub const ROWS: usize = 41;
 pub const SCRATCH: usize = COLUMNS * ROWS * 2;
+/// A part in a key, and no key: a key is parts × 2^32 + price.
+const PART: u64 = 1 << 32;
 const NONE: u64 = 1 << 40;
 pub type Table = [u64; SCRATCH];
 
@@ -42,14 +44,16 @@ fn cell(a: usize, b: usize, after_a: usize) -> usize {
     (b * COLUMNS + a) * 2 + after_a
 }
 
+/// The columns of a row in which something is left.
+fn live(row: u64) -> usize {
+    COLUMNS - row.leading_zeros() as usize
+}
+
 pub fn fill_counts(ts: &Tables, n: u64, t: &mut Table) {
     for b in (0..ROWS).rev() {
         let row = n / ts.pow3[b];
-        for a in (0..COLUMNS).rev() {
+        for a in (0..live(row)).rev() {
             let m = row >> a;
-            if m == 0 {
-                continue;
-            }
             let i = cell(a, b, 0);
             if m == 1 {
                 t[i] = 1;
@@ -168,29 +172,31 @@ pub struct Asked {
 fn fill_keys(ts: &Tables, q: &Asked, t: &mut Table) {
     for b in (0..ROWS).rev() {
         let row = q.n / ts.pow3[b];
-        for a in (0..COLUMNS).rev() {
+        for a in (0..live(row)).rev() {
             let m = row >> a;
-            if m == 0 {
-                continue;
-            }
             let i = cell(a, b, 0);
             let (mut free, mut after_a) = (NONE, NONE);
             if a <= q.a && b <= q.b {
                 if m == 1 {
-                    free = 1 << 32;
-                    after_a = free;
+                    free = PART;
+                    after_a = PART;
                 } else {
-                    if a < q.a && t[i + 3] < NONE {
-                        free = t[i + 3] + q.d + if m % 2 == 1 { (1 << 32) + q.s } else { 0 };
-                        after_a = free;
+                    if a < q.a {
+                        after_a = t[i + 3] + q.d;
+                        if m % 2 == 1 {
+                            after_a += PART + q.s;
+                        }
+                        free = after_a;
                     }
-                    if b < q.b && m % 3 < 2 && t[i + 128] < NONE {
-                        if m % 3 == 1 {
-                            let k = t[i + 128] + q.t + (1 << 32) + q.s;
-                            free = free.min(k);
-                            after_a = after_a.min(k);
-                        } else {
-                            free = free.min(t[i + 128] + q.t);
+                    if b < q.b {
+                        match m % 3 {
+                            0 => free = free.min(t[i + 128] + q.t),
+                            1 => {
+                                let k = t[i + 128] + q.t + PART + q.s;
+                                free = free.min(k);
+                                after_a = after_a.min(k);
+                            }
+                            _ => {}
                         }
                     }
                 }
@@ -211,7 +217,7 @@ fn best_word(ts: &Tables, q: &Asked, t: &Table) -> Vec<u8> {
             return word;
         }
         let here = t[cell(a, b, f)];
-        let part = if m % 2 == 1 { (1 << 32) + q.s } else { 0 };
+        let part = if m % 2 == 1 { PART + q.s } else { 0 };
         if a < q.a && t[cell(a + 1, b, 1)] + q.d + part == here {
             word.push((m % 2) as u8);
             a += 1;

@@ -7,7 +7,6 @@ values; a word is the walk itself, point by point; the dictionary order is that 
     independent.py WHAT        writes what the test program of that name must print (or, for WHAT-stdin, what it must be given)
     independent.py             lists the WHATs
 """
-import itertools
 import re
 import sys
 
@@ -132,6 +131,36 @@ def test_plain():
     yield "12"
     yield "12"
     yield str(len(chains_of(65535)))
+
+
+def number_or_dash(a, b):
+    return NUMBER.get((a, b), "-")
+
+
+def sum_or_dash(*values):
+    return str(sum(values)) if sum(values) < LIMIT else "-"
+
+
+@what
+def test_parts():
+    """The part table with exponents and numbers; numbers at its edges; sums that just fit and just do not."""
+    for i, (a, b) in enumerate(TABLE):
+        yield f"{i} {VALUE[a, b]} {a} {b} {number_or_dash(a, b)}"
+    yield str(max(VALUE.values()))
+    top = LIMIT - 1
+    edges = "63,0 64,0 62,1 63,1 32,20 33,20 40,20 0,40 1,40 0,41 2,39 3,39"
+    points = [tuple(map(int, e.split(","))) for e in edges.split()] + [(top, 0), (0, top), (top, top)]
+    for a, b in points:
+        yield f"{a} {b} {number_or_dash(a, b)}"
+    powers = [2**a for a in range(64)]
+    yield sum_or_dash()
+    yield sum_or_dash(*powers)
+    yield sum_or_dash(*powers, 1)
+    yield sum_or_dash(2**63, 2**62)
+    yield sum_or_dash(2**63, 2**63)
+    yield sum_or_dash(3 * 2**62, 2**61)
+    yield sum_or_dash(3 * 2**62, 2**62)
+    yield sum_or_dash(3 * 2**62, 3 * 2**61)
 
 
 def main():

@@ -15,6 +15,9 @@
 --   Rest       the rest at a point is the floor of n by the point's value
 --   Bounds     how many letters and parts a number below 2^k allows
 --   Counts     the six relations of the count, and its bounds
+--   Keys       costs of letters, the cut grid, the best word at a point (definitions)
+--   Bests      the best word from the best words of the half and the third, over any costs
+--   BestOfAll  the chain of the best word is the best of all chains: demand 3
 --   Checked    the checked numbers of document 01
 pub mod Chains
 pub mod Words
@@ -33,4 +36,7 @@ pub mod PositionsOfChains
 pub mod Rest
 pub mod Bounds
 pub mod Counts
+pub mod Keys
+pub mod Bests
+pub mod BestOfAll
 pub mod Checked

@@ -1,0 +1,360 @@
+-- The best chain over all chains of n is that of the best word: document 01, 'Services and memory'; demand 3.
+--
+-- First the definitions: the costs of letters for document 01's prices, where a part counts M, and the chain that they choose (`bestOf`).
+-- Then: the key of a word is M for each part of its chain, and the chain's price (`key-price`); the limits on a word; how high a price
+-- can be (`price-fits`: below 2^32 for a number of 64 bits and prices of 16); the first word of least key has the earliest position. Last
+-- the theorems of record: a number has one best chain at most (`best-unique`); where no price reaches M, `bestOf` answers none only if no
+-- chain is within the limits (`none-fits`), and a chain only if that is the best (`best-is-best`).
+--
+-- The best word is defined in Keys and found in Bests; price, limits and the best chain are defined in Best.
+use mathlib.Core.Path.{_≡_, refl, sym, ap, _∙_}
+use mathlib.Core.Logic.{_↔_, _≢_, _⊎_, inl, inr, ⊎-elim}
+use mathlib.Core.Bool.{Bool, true, false, cond}
+use mathlib.Core.List.{List, [], _∷_, List·Memᴰ}
+use mathlib.Core.Option.{Option, none, some}
+use Prim.Native.Nat.{ℕ, zero, suc, _+_, _*_, _^_, _≤_, _<_}
+use native.Mathlib.Nat.{mul-suc, mul-le-mul-left}
+use native.Mathlib.Decide.{decLt, ℕ-discrete}
+use native.Mathlib.Omega.{arith}
+use lib.Dec.{T, leb, leb·zero}
+use lib.ListN.{length, getD, length-append, List·getD-append}
+use lib.Seq.{getD-append-seam}
+use mir.Facts.{and-yes}
+use borrow.Author.Tests.{leb-true, leb-false}
+use Rattle.chains.specs.Chains.{Part, total, ChainOf}
+use Rattle.chains.specs.Words.{Word, origin, wordOf, right, up, chainFrom, chainOf, someLeft, reads}
+use Rattle.chains.specs.Listing.{wordsAt, listOf, countBefore, position, chainAt}
+use Rattle.chains.specs.Best.{Prices, price, Limits, Within, Better, IsBest}
+use Rattle.chains.specs.Weight.{weight, total-chainOf}
+use Rattle.chains.specs.Members.{member-words, getD-member}
+use Rattle.chains.specs.Positions.{words-position, words-at-position}
+use Rattle.chains.specs.PositionsOfChains.{at-position}
+use Rattle.chains.specs.RoundTrip.{chain-word-chain, word-reads, word-chained, word-chain-word}
+use Rattle.chains.specs.Bounds.{parts-bound, word-bound, word-length}
+use Rattle.chains.specs.Keys.{Costs, key, next, lastPoint, inGrid, bestAt}
+use Rattle.chains.specs.Bests.{FirstLeast, Found, first-member, first-no-less, inside-bounds, best-found, best-zero}
+
+-- ---- the chain that the costs choose
+
+-- What a letter costs that is not the last: a part M and an addition s, a rise of a d, a rise of b t.
+unfoldable pub letterCost : ℕ → Prices → ℕ → ℕ
+letterCost M π zero = π .d
+letterCost M π (suc zero) = M + π .s + π .d
+letterCost M π (suc (suc zero)) = π .t
+letterCost M π (suc (suc (suc zero))) = M + π .s + π .t
+letterCost M π (suc (suc (suc (suc l)))) = 0
+
+-- The last point is a part, with no addition after it.
+unfoldable pub costsOf : ℕ → Prices → Costs
+costsOf M π = record { letter = letterCost M π; last = M }
+
+-- The chain of a word, if it has at most K parts.
+unfoldable pub upTo : ℕ → Option Word → Option (List Part)
+upTo K none = none
+upTo K (some w) = cond (leb (length (chainOf w)) K) (some (chainOf w)) none
+
+-- The chain of the best word from (0, 0) on: A and B cut the grid, and K is looked at once, at the end.
+unfoldable pub bestOf : ℕ → ℕ → Limits → Prices → Option (List Part)
+bestOf M n lim π = upTo (lim .K) (bestAt (costsOf M π) (lim .A) (lim .B) true origin n)
+
+-- The empty chain for 0, whatever the limits.
+pub best-of-zero : (M : ℕ) (lim : Limits) (π : Prices) → bestOf M 0 lim π ≡ some []
+unfolding bestOf upTo chainOf chainFrom
+best-of-zero M lim π = rw (best-zero (costsOf M π) (lim .A) (lim .B) true origin, leb·zero (lim .K))
+
+-- ---- the key and the end of a word
+
+module _ (M : ℕ) (π : Prices) where
+  -- What the walk to p costs with k parts met before it.
+  paid : Part → ℕ → ℕ
+  paid p k = M * k + (π .d * p .a + π .t * p .b + π .s * k)
+
+  paid-right : (p : Part) (k : ℕ) → paid (right p) k ≡ π .d + paid p k
+  unfolding paid right
+  paid-right p k = rw (mul-suc (π .d) (p .a)) (omega arith)
+
+  paid-up : (p : Part) (k : ℕ) → paid (up p) k ≡ π .t + paid p k
+  unfolding paid up
+  paid-up p k = rw (mul-suc (π .t) (p .b)) (omega arith)
+
+  paid-part : (p : Part) (k : ℕ) → paid p (suc k) ≡ M + π .s + paid p k
+  unfolding paid
+  paid-part p k = rw (mul-suc M k, mul-suc (π .s) k) (omega arith)
+
+  -- The letters w lead from p to the largest part, and their key is what the walk there adds.
+  record Walked (p : Part) (met : List Part) (w : Word) : Type 0 where
+    below : List Part
+    chain : chainFrom p met w ≡ lastPoint p w ∷ below
+    costs : key (costsOf M π) w + paid p (length met) ≡ M + paid (lastPoint p w) (length below)
+
+  further :
+      (p : Part) (met met′ : List Part) (l x : ℕ) (w : Word)
+      → chainFrom p met (l ∷ x ∷ w) ≡ chainFrom (next l p) met′ (x ∷ w)
+      → letterCost M π l + paid p (length met) ≡ paid (next l p) (length met′)
+      → Walked (next l p) met′ (x ∷ w)
+      → Walked p met (l ∷ x ∷ w)
+  unfolding lastPoint key costsOf
+  further p met met′ l x w e c r = record { below = r .below; chain = e ∙ r .chain; costs = omega (arith, r .costs) }
+
+  walked : (f : Bool) (p : Part) (met : List Part) (w : Word) → T (reads f w) → T (someLeft w) → Walked p met w
+  unfolding reads someLeft chainFrom lastPoint key costsOf letterCost next
+  walked f p met [] h s = absurd s
+  walked f p met (zero ∷ []) h s = absurd h
+  walked f p met (zero ∷ x ∷ w) h s =
+      further p met met 0 x w refl (sym (paid-right p (length met))) (walked false (right p) met (x ∷ w) h tt)
+  walked f p met (suc zero ∷ []) h s = absurd h
+  walked f p met (suc zero ∷ x ∷ w) h s =
+      further p met (p ∷ met) 1 x w refl
+      (omega (arith, paid-right p (suc (length met)), paid-part p (length met)))
+      (walked false (right p) (p ∷ met) (x ∷ w) h tt)
+  walked f p met (suc (suc zero) ∷ []) h s = absurd (and-yes f false h .1)
+  walked f p met (suc (suc zero) ∷ x ∷ w) h s =
+      further p met met 2 x w refl
+      (sym (paid-up p (length met)))
+      (walked true (up p) met (x ∷ w) (and-yes f (reads true (x ∷ w)) h .1) tt)
+  walked f p met (suc (suc (suc zero)) ∷ []) h s = record { below = met; chain = refl; costs = refl }
+  walked f p met (suc (suc (suc zero)) ∷ x ∷ w) h s =
+      further p met (p ∷ met) 3 x w refl
+      (omega (arith, paid-up p (suc (length met)), paid-part p (length met)))
+      (walked true (up p) (p ∷ met) (x ∷ w) h tt)
+  walked f p met (suc (suc (suc (suc l))) ∷ w) h s = absurd h
+
+  -- The key of a word: M for each part of its chain, and the chain's price.
+  pub key-price : (w : Word) → T (reads true w) → key (costsOf M π) w ≡ M * length (chainOf w) + price π (chainOf w)
+  unfolding key price chainOf chainFrom someLeft paid
+  key-price [] h = omega arith
+  key-price (l ∷ w) h =
+      let r = walked true origin [] (l ∷ w) h tt in
+      rw (r .chain) (rw (mul-suc M (length (r .below))) (omega (arith, r .costs)))
+
+  -- The chain of a word is within the limits if it has at most K parts and the word ends in the grid.
+  within-word :
+      (lim : Limits) (w : Word)
+      → T (reads true w)
+      → Within lim (chainOf w) ↔ ((length (chainOf w) ≤ lim .K) × T (inGrid (lim .A) (lim .B) origin w))
+  unfolding Within chainOf chainFrom inGrid someLeft
+  within-word lim [] h = (λ _. (omega arith, tt), λ _. tt)
+  within-word lim (l ∷ w) h =
+      let r = walked true origin [] (l ∷ w) h tt in
+      let i = inside-bounds (lim .A) (lim .B) (lastPoint origin (l ∷ w)) in
+      rw (r .chain) (λ b. (b .0, i .1 (b .1, b .2)), λ b. (b .0, i .0 (b .1) .0, i .0 (b .1) .1))
+
+-- ---- how high a price can be
+
+pub price-within : (π : Prices) (lim : Limits) (c : List Part) → Within lim c → price π c ≤ π .d * lim .A + π .t * lim .B + π .s * lim .K
+unfolding Within price
+price-within π lim [] h = omega arith
+price-within π lim (p ∷ c) h =
+    let k : length c ≤ lim .K = omega arith in
+    omega (arith, mul-le-mul-left (π .d) (h .1), mul-le-mul-left (π .t) (h .2), mul-le-mul-left (π .s) k)
+
+-- A price fits in 32 bits: document 01, 'Parts and chains'.
+pub price-fits :
+    (n : ℕ) (π : Prices)
+    → n < 2 ^ 64
+    → π .d < 2 ^ 16
+    → π .t < 2 ^ 16
+    → π .s < 2 ^ 16
+    → (c : List Part)
+    → ChainOf n c
+    → price π c < 2 ^ 32
+unfolding price Within
+price-fits n π h d t s [] k = omega arith
+price-fits n π h d t s (p ∷ c) k =
+    let parts = parts-bound n 64 (p ∷ c) k h in
+    let letters = word-bound n 64 (p ∷ c) k h in
+    let points = word-length p c (k .chained) in
+    omega (arith, price-within π (record { K = 64; A = 63; B = 63 }) (p ∷ c) (omega arith))
+
+-- ---- positions
+
+word-of-chain : (n : ℕ) (c : List Part) → ChainOf n c → List·Memᴰ (wordOf c) (wordsAt true n)
+word-of-chain n c h =
+    member-words true n (wordOf c) .1
+    (word-reads c, sym (total-chainOf (wordOf c)) ∙ ap total (chain-word-chain c (h .chained)) ∙ h .sums)
+
+-- The first word of least key stands before every other word of that key.
+first-position :
+    (t : Word → Bool) (g : Word → ℕ) (n : ℕ) (w v : Word)
+    → FirstLeast t g (wordsAt true n) w
+    → List·Memᴰ v (wordsAt true n)
+    → T (t v)
+    → g v ≤ g w
+    → v ≢ w
+    → countBefore w (wordsAt true n) < countBefore v (wordsAt true n)
+first-position t g n w v r m p k d = go (decLt i j) (decLt j i)
+  where
+    i : ℕ
+    i = length (r .front)
+
+    j : ℕ
+    j = countBefore v (wordsAt true n)
+
+    at-i : getD (wordsAt true n) i [] ≡ w
+    at-i = ap (λ (l : List Word). getD l i []) (r .split) ∙ getD-append-seam (r .front) w (r .back) []
+
+    i-is : countBefore w (wordsAt true n) ≡ i
+    i-is = rw at-i at (words-position true n i (rw (r .split, length-append) (omega arith)))
+
+    at-j : getD (wordsAt true n) j [] ≡ v
+    at-j = words-at-position true n v m .1
+
+    go : Dec (i < j) → Dec (j < i) → countBefore w (wordsAt true n) < j
+    go (yes h) o = omega (arith, i-is)
+    go (no h) (yes o) =
+        let e : getD (r .front) j [] ≡ v =
+        sym (List·getD-append (r .front) (w ∷ r .back) [] j o) ∙ sym (ap (λ (l : List Word). getD l j []) (r .split)) ∙ at-j in
+        absurd (omega (arith, r .above v (rw e at (getD-member (r .front) j o)) p))
+    go (no h) (no o) =
+        let e : j ≡ i = omega arith in
+        absurd (d (sym at-j ∙ ap (λ (l : ℕ). getD (wordsAt true n) l []) e ∙ at-i))
+
+-- ---- the best chain
+
+-- Two numbers of two digits each in base M.
+by-digits : (M k k′ x x′ : ℕ) → x < M → x′ < M → M * k + x ≤ M * k′ + x′ → (k < k′) ⊎ ((k ≡ k′) × (x ≤ x′))
+by-digits M k k′ x x′ h h′ e = go (decLt k k′) (decLt k′ k)
+  where
+    go : Dec (k < k′) → Dec (k′ < k) → (k < k′) ⊎ ((k ≡ k′) × (x ≤ x′))
+    go (yes l) d = inl l
+    go (no l) (yes g) = absurd (omega (arith, mul-le-mul-left M g, mul-suc M k′))
+    go (no l) (no g) = let q : k ≡ k′ = omega arith in inr (q, omega (arith, ap (λ (i : ℕ). M * i) q))
+
+-- Of two chains not each is better than the other.
+not-both : (n : ℕ) (π : Prices) (c c′ : List Part) → Better n π c c′ → Better n π c′ c → ⊥
+unfolding Better
+not-both n π c c′ (inl h) (inl k) = omega arith
+not-both n π c c′ (inl h) (inr k) = omega arith
+not-both n π c c′ (inr h) (inl k) = omega arith
+not-both n π c c′ (inr h) (inr k) = by-price (h .1) (k .1)
+  where
+    by-price :
+        (price π c < price π c′) ⊎ ((price π c ≡ price π c′) × (position n c < position n c′))
+        → (price π c′ < price π c) ⊎ ((price π c′ ≡ price π c) × (position n c′ < position n c))
+        → ⊥
+    by-price (inl h) (inl k) = omega arith
+    by-price (inl h) (inr k) = omega arith
+    by-price (inr h) (inl k) = omega arith
+    by-price (inr h) (inr k) = omega arith
+
+-- A number has one best chain at most.
+pub best-unique : (n : ℕ) (lim : Limits) (π : Prices) (c c′ : List Part) → IsBest n lim π c → IsBest n lim π c′ → c ≡ c′
+best-unique n lim π c c′ h h′ = go (ℕ-discrete (position n c) (position n c′))
+  where
+    go : Dec (position n c ≡ position n c′) → c ≡ c′
+    go (yes e) = sym (at-position n c (h .chain) .1) ∙ ap (chainAt n) e ∙ at-position n c′ (h′ .chain) .1
+    go (no d) =
+        absurd
+        (not-both n π c c′
+        (h .best c′ (h′ .chain) (h′ .within) (λ (q : c′ ≡ c). d (ap (position n) (sym q))))
+        (h′ .best c (h .chain) (h .within) (λ (q : c ≡ c′). d (ap (position n) q))))
+
+module _ (M n : ℕ) (lim : Limits) (π : Prices) (cheap : (c : List Part) → ChainOf n c → price π c < M) where
+  -- What the best word is chosen by: a word that ends in the grid, of least key.
+  abbrev ends : Word → Bool
+  ends w = inGrid (lim .A) (lim .B) origin w
+
+  abbrev cost : Word → ℕ
+  cost w = key (costsOf M π) w
+
+  -- The same of a chain's word.
+  fits : (c : List Part) → ChainOf n c → Within lim c ↔ ((length c ≤ lim .K) × T (ends (wordOf c)))
+  fits c h = rw (chain-word-chain c (h .chained)) at (within-word M π lim (wordOf c) (word-reads c))
+
+  cost-chain : (c : List Part) → ChainOf n c → cost (wordOf c) ≡ M * length c + price π c
+  cost-chain c h = rw (chain-word-chain c (h .chained)) at (key-price M π (wordOf c) (word-reads c))
+
+  module _ (w : Word) (r : FirstLeast ends cost (wordsAt true n) w) where
+    listed : T (reads true w) × (weight w ≡ n)
+    listed = member-words true n w .0 (first-member ends cost r)
+
+    chain-of : ChainOf n (chainOf w)
+    chain-of = record { chained = word-chained w; sums = total-chainOf w ∙ listed .1 }
+
+    -- No chain has fewer parts, or as many and a lower price.
+    no-better :
+        (c : List Part)
+        → ChainOf n c
+        → Within lim c
+        → (length (chainOf w) < length c) ⊎ ((length (chainOf w) ≡ length c) × (price π (chainOf w) ≤ price π c))
+    no-better c h b =
+        let l = first-no-less ends cost r (wordOf c) (word-of-chain n c h) (fits c h .0 b .1) in
+        by-digits M (length (chainOf w)) (length c) (price π (chainOf w)) (price π c)
+        (cheap (chainOf w) chain-of)
+        (cheap c h)
+        (omega (arith, key-price M π w (listed .0), cost-chain c h))
+
+    -- Another with as many parts and no higher price has a later position.
+    later :
+        (c : List Part)
+        → ChainOf n c
+        → Within lim c
+        → c ≢ chainOf w
+        → length (chainOf w) ≡ length c
+        → price π c ≤ price π (chainOf w)
+        → position n (chainOf w) < position n c
+    unfolding position listOf
+    later c h b d e p =
+        rw (word-chain-word w (listed .0))
+        (first-position ends cost n w (wordOf c) r
+        (word-of-chain n c h)
+        (fits c h .0 b .1)
+        (omega (arith, key-price M π w (listed .0), cost-chain c h, ap (λ (k : ℕ). M * k) e))
+        (λ (q : wordOf c ≡ w). d (sym (chain-word-chain c (h .chained)) ∙ ap chainOf q)))
+
+    is-best : length (chainOf w) ≤ lim .K → IsBest n lim π (chainOf w)
+    unfolding Better
+    is-best k =
+        record {
+          chain = chain-of;
+          within = within-word M π lim w (listed .0) .1 (k, r .passes);
+          best = λ c h b d. go c h b d (decLt (price π (chainOf w)) (price π c)) (no-better c h b);
+        }
+      where
+        go :
+            (c : List Part)
+            → ChainOf n c
+            → Within lim c
+            → c ≢ chainOf w
+            → Dec (price π (chainOf w) < price π c)
+            → (length (chainOf w) < length c) ⊎ ((length (chainOf w) ≡ length c) × (price π (chainOf w) ≤ price π c))
+            → Better n π (chainOf w) c
+        go c h b d p (inl l) = inl l
+        go c h b d (yes p) (inr e) = inr (e .0, inl p)
+        go c h b d (no p) (inr e) = inr (e .0, inr (omega arith, later c h b d (e .0) (omega arith)))
+
+  -- What an answer tells.
+  abbrev Told : Option (List Part) → Type 0
+  Told none = (c : List Part) → ChainOf n c → Within lim c → ⊥
+  Told (some c) = IsBest n lim π c
+
+  told : Told (bestOf M n lim π)
+  unfolding bestOf upTo
+  told = go (bestAt (costsOf M π) (lim .A) (lim .B) true origin n) (best-found (costsOf M π) (lim .A) (lim .B) true origin n)
+    where
+      parts :
+          (w : Word)
+          → FirstLeast ends cost (wordsAt true n) w
+          → (b : Bool)
+          → leb (length (chainOf w)) (lim .K) ≡ b
+          → Told (cond b (some (chainOf w)) none)
+      parts w r true e = is-best w r (leb-true (length (chainOf w)) (lim .K) e)
+      parts w r false e =
+          λ c h b.
+          let k = fits c h .0 b .0 in
+          ⊎-elim
+          (λ (l : length (chainOf w) < length c). omega (arith, leb-false))
+          (λ (l : (length (chainOf w) ≡ length c) × (price π (chainOf w) ≤ price π c)). omega (arith, leb-false))
+          (no-better w r c h b)
+
+      go : (o : Option Word) → Found ends cost (wordsAt true n) o → Told (upTo (lim .K) o)
+      go none f = λ c h b. f (wordOf c) (word-of-chain n c h) (fits c h .0 b .1)
+      go (some w) r = parts w r (leb (length (chainOf w)) (lim .K)) refl
+
+  -- Where the answer is none, no chain of n is within the limits.
+  pub none-fits : bestOf M n lim π ≡ none → (c : List Part) → ChainOf n c → Within lim c → ⊥
+  none-fits e = rw e at told
+
+  -- Where the answer is a chain, it is the best chain of n within the limits.
+  pub best-is-best : (c : List Part) → bestOf M n lim π ≡ some c → IsBest n lim π c
+  best-is-best c e = rw e at told
