@@ -1,10 +1,10 @@
 -- The best chain over all chains of n is that of the best word: document 01, 'Services and memory'; demand 3.
 --
--- First the definitions: the costs of letters for document 01's prices, where a part counts M, and the chain that they choose (`bestOf`).
--- Then: the key of a word is M for each part of its chain, and the chain's price (`key-price`); the limits on a word; how high a price
--- can be (`price-fits`: below 2^32 for a number of 64 bits and prices of 16); the first word of least key has the earliest position. Last
--- the theorems of record: a number has one best chain at most (`best-unique`); where no price reaches M, `bestOf` answers none only if no
--- chain is within the limits (`none-fits`), and a chain only if that is the best (`best-is-best`).
+-- First the definitions: the costs of letters for document 01's prices, where a part counts M, and the chain that they choose
+-- (`bestOf`). Then: the key of a word is M for each part of its chain, and the chain's price (`key-price`); the limits on a word; how
+-- high a price can be (`price-fits`: below 2^32 for a number of 64 bits and prices of 16); the first word of least key has the
+-- earliest position. Last the theorems of record: a number has one best chain at most (`best-unique`); where no price reaches M,
+-- `bestOf` answers none only if no chain is within the limits (`none-fits`), and a chain only if that is the best (`best-is-best`).
 --
 -- The best word is defined in Keys and found in Bests; price, limits and the best chain are defined in Best.
 use mathlib.Core.Path.{_≡_, refl, sym, ap, _∙_}
@@ -141,7 +141,8 @@ module _ (M : ℕ) (π : Prices) where
 
 -- ---- how high a price can be
 
-pub price-within : (π : Prices) (lim : Limits) (c : List Part) → Within lim c → price π c ≤ π .d * lim .A + π .t * lim .B + π .s * lim .K
+pub price-within :
+    (π : Prices) (lim : Limits) (c : List Part) → Within lim c → price π c ≤ π .d * lim .A + π .t * lim .B + π .s * lim .K
 unfolding Within price
 price-within π lim [] h = omega arith
 price-within π lim (p ∷ c) h =

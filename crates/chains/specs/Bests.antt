@@ -1,9 +1,10 @@
 -- The best word at a point from the best words of the half and the third: over any costs of letters, in the grid cut at A and B.
 --
--- In this order: the choice of two words; the least of the words of a list that pass a test (`least-found`, with `FirstLeast` for what it
--- tells); the words of a rest, and the grid; the two branches at a point, by a rise of a and by a rise of b; the best word at a rest of 2
--- or more (`best-step`), of 0 and of 1, and outside the grid, and what is left of it after its first letter (`best-tail`); last the same
--- for the least key, a number as a table holds it (`least-step`), and the two choices of a walk along such a table (`take-a`, `take-b`).
+-- In this order: the choice of two words; the least of the words of a list that pass a test (`least-found`, with `FirstLeast` for
+-- what it tells); the words of a rest, and the grid; the two branches at a point, by a rise of a and by a rise of b; the best word
+-- at a rest of 2 or more (`best-step`), of 0 and of 1, and outside the grid, and what is left of it after its first letter
+-- (`best-tail`). Last the same for the least key, a number as a table holds it (`least-step`), and the two choices of a walk along
+-- such a table (`take-a`, `take-b`).
 --
 -- That the best word is the word of the best chain, for document 01's prices, is in BestOfAll.
 use mathlib.Core.Path.{_≡_, refl, sym, ap, subst, _∙_}
@@ -96,7 +97,11 @@ module _ (t : Word → Bool) (g : Word → ℕ) where
       (List·Memᴰ·append-cases (r .front) (rw (r .split) at m))
 
   -- The head of a list is the first least, or does not count.
-  head-first : (x : Word) (ws : List Word) → T (t x) → ((v : Word) → List·Memᴰ v ws → T (t v) → g x ≤ g v) → FirstLeast t g (x ∷ ws) x
+  head-first :
+      (x : Word) (ws : List Word)
+      → T (t x)
+      → ((v : Word) → List·Memᴰ v ws → T (t v) → g x ≤ g v)
+      → FirstLeast t g (x ∷ ws) x
   head-first x ws p h =
       record {
         front = [];
@@ -265,8 +270,11 @@ module _ (κ : Costs) (A B : ℕ) where
   earlier-letter l x none hx ho = refl
   earlier-letter l x (some y) hx ho = rw (key-letter κ l x hx, key-letter κ l y (ho y refl)) (go (leb (key κ x) (key κ y)) refl)
     where
-      go : (b : Bool) → leb (key κ x) (key κ y) ≡ b
-          → cond (leb (κ .letter l + key κ x) (κ .letter l + key κ y)) (some (l ∷ x)) (some (l ∷ y)) ≡ lead l (cond b (some x) (some y))
+      go :
+          (b : Bool)
+          → leb (key κ x) (key κ y) ≡ b
+          → cond (leb (κ .letter l + key κ x) (κ .letter l + key κ y)) (some (l ∷ x)) (some (l ∷ y))
+          ≡ lead l (cond b (some x) (some y))
       go true e = rw (le-leb (κ .letter l + key κ x) (κ .letter l + key κ y) (omega (arith, leb-true)))
       go false e = rw (lt-leb (κ .letter l + key κ x) (κ .letter l + key κ y) (omega (arith, leb-false)))
 
@@ -278,18 +286,18 @@ module _ (κ : Costs) (A B : ℕ) where
       rw (grid-letter A B p l x (h x (List·Memᴰ·head refl)))
       (go (inGrid A B (next l p) x) (best-letter p l ws (λ (w : Word) (k : List·Memᴰ w ws). h w (List·Memᴰ·tail k))))
     where
-      K : List Word
-      K = keep (inGrid A B p) (under l ws)
+      led : List Word
+      led = keep (inGrid A B p) (under l ws)
 
-      K′ : List Word
-      K′ = keep (inGrid A B (next l p)) ws
+      bare : List Word
+      bare = keep (inGrid A B (next l p)) ws
 
-      full : (w : Word) → least (key κ) K′ ≡ some w → T (someLeft w)
+      full : (w : Word) → least (key κ) bare ≡ some w → T (someLeft w)
       full w e = h w (List·Memᴰ·tail (first-member (inGrid A B (next l p)) (key κ) (in-first (next l p) ws w e)))
 
-      go : (b : Bool) → least (key κ) K ≡ lead l (least (key κ) K′)
-          → least (key κ) (cond b ((l ∷ x) ∷ K) K) ≡ lead l (least (key κ) (cond b (x ∷ K′) K′))
-      go true e = rw e (earlier-letter l x (least (key κ) K′) (h x (List·Memᴰ·head refl)) full)
+      go : (b : Bool) → least (key κ) led ≡ lead l (least (key κ) bare)
+          → least (key κ) (cond b ((l ∷ x) ∷ led) led) ≡ lead l (least (key κ) (cond b (x ∷ bare) bare))
+      go true e = rw e (earlier-letter l x (least (key κ) bare) (h x (List·Memᴰ·head refl)) full)
       go false e = e
 
   best-kept : (b : Bool) (p : Part) (l : ℕ) (ws : List Word) → (T b → Full ws)
@@ -300,12 +308,15 @@ module _ (κ : Costs) (A B : ℕ) where
 
   -- The step: of the best that begins with a rise of a and the best that begins with a rise of b, the one of smaller key, the first
   -- where they are equal. That p's neighbours may lie outside the grid needs no case of its own (`best-outside`).
-  pub best-step : (f : Bool) (p : Part) (m : ℕ) → 2 ≤ m → bestAt κ A B f p m ≡ earlier (key κ) (raiseA κ A B p m) (raiseB κ A B f p m)
+  pub best-step :
+      (f : Bool) (p : Part) (m : ℕ) → 2 ≤ m → bestAt κ A B f p m ≡ earlier (key κ) (raiseA κ A B p m) (raiseB κ A B f p m)
   unfolding bestAt branches
   best-step f p m h =
       rw (
         words-step f m (omega arith),
-        keep-append (inGrid A B p) (under (m % 2) (wordsAt false (m / 2))) (under (2 + m % 3) (kept (rises f (m % 3)) (wordsAt true (m / 3)))),
+        keep-append (inGrid A B p)
+            (under (m % 2) (wordsAt false (m / 2)))
+            (under (2 + m % 3) (kept (rises f (m % 3)) (wordsAt true (m / 3)))),
         least-append (key κ),
         best-letter p (m % 2) (wordsAt false (m / 2)) (full-words false (m / 2) (omega arith)),
         best-kept (rises f (m % 3)) p (2 + m % 3) (wordsAt true (m / 3)) (λ t. full-words true (m / 3) (third-left f m h t)),
@@ -332,8 +343,7 @@ module _ (κ : Costs) (A B : ℕ) where
   best-found f p m = least-found (inGrid A B p) (key κ) (wordsAt f m)
 
   best-full : (f : Bool) (p : Part) (m : ℕ) (w : Word) → 0 < m → bestAt κ A B f p m ≡ some w → T (someLeft w)
-  best-full f p m w h e =
-      full-words f m h w (first-member (inGrid A B p) (key κ) (rw e at (best-found f p m)))
+  best-full f p m w h e = full-words f m h w (first-member (inGrid A B p) (key κ) (rw e at (best-found f p m)))
 
   pub best-outside : (f : Bool) (p : Part) (m : ℕ) → 0 < m → (T (inside A B p) → ⊥) → bestAt κ A B f p m ≡ none
   best-outside f p m h n = go (bestAt κ A B f p m) refl
@@ -367,7 +377,10 @@ module _ (big : ℕ) (κ : Costs) where
   keyOr-earlier (some u) none = omega arith
   keyOr-earlier (some u) (some v) = go (leb (key κ u) (key κ v)) refl
     where
-      go : (b : Bool) → leb (key κ u) (key κ v) ≡ b → keyOr big κ (cond b (some u) (some v)) ≡ min (min big (key κ u)) (min big (key κ v))
+      go :
+          (b : Bool)
+          → leb (key κ u) (key κ v) ≡ b
+          → keyOr big κ (cond b (some u) (some v)) ≡ min (min big (key κ u)) (min big (key κ v))
       go true e = omega (arith, leb-true)
       go false e = omega (arith, leb-false)
 
@@ -420,18 +433,29 @@ module _ (big : ℕ) (κ : Costs) (A B : ℕ) where
         for-both = ap (keyOr big κ) (best-step κ A B f p m h) ∙ keyOr-earlier big κ (raiseA κ A B p m) (raiseB κ A B f p m);
       }
 
-  pub least-step : (f : Bool) (p : Part) (m : ℕ) → 2 ≤ m → leastKey big κ A B f p m ≡ min big (min (keyA big κ A B p m) (keyB big κ A B f p m))
+  pub least-step :
+      (f : Bool) (p : Part) (m : ℕ)
+      → 2 ≤ m
+      → leastKey big κ A B f p m ≡ min big (min (keyA big κ A B p m) (keyB big κ A B f p m))
   least-step f p m h = let k = branch-keys f p m h in omega arith
 
   -- A walk takes the rise of a where that keeps the least key, else the rise of b.
-  pub take-a : (f : Bool) (p : Part) (m : ℕ) → 2 ≤ m → leastKey big κ A B f p m < big
-      → keyA big κ A B p m ≡ leastKey big κ A B f p m → bestAt κ A B f p m ≡ raiseA κ A B p m
+  pub take-a :
+      (f : Bool) (p : Part) (m : ℕ)
+      → 2 ≤ m
+      → leastKey big κ A B f p m < big
+      → keyA big κ A B p m ≡ leastKey big κ A B f p m
+      → bestAt κ A B f p m ≡ raiseA κ A B p m
   take-a f p m h b e =
       let k = branch-keys f p m h in
       best-step κ A B f p m h ∙ earlier-left big κ (raiseA κ A B p m) (raiseB κ A B f p m) (omega arith) (omega arith)
 
-  pub take-b : (f : Bool) (p : Part) (m : ℕ) → 2 ≤ m → leastKey big κ A B f p m < big
-      → keyA big κ A B p m ≢ leastKey big κ A B f p m → bestAt κ A B f p m ≡ raiseB κ A B f p m
+  pub take-b :
+      (f : Bool) (p : Part) (m : ℕ)
+      → 2 ≤ m
+      → leastKey big κ A B f p m < big
+      → keyA big κ A B p m ≢ leastKey big κ A B f p m
+      → bestAt κ A B f p m ≡ raiseB κ A B f p m
   take-b f p m h b e =
       let k = branch-keys f p m h in
       best-step κ A B f p m h ∙ earlier-right big κ (raiseA κ A B p m) (raiseB κ A B f p m) (omega arith)
@@ -459,6 +483,7 @@ module _ (big : ℕ) (κ : Costs) (A B : ℕ) where
       go none e h = absurd (omega arith)
       go (some w) e h = (w, e, rw e (omega arith))
 
-  pub least-big : (f : Bool) (p : Part) (m : ℕ) → leastKey big κ A B f p m ≡ big → (w : Word) → bestAt κ A B f p m ≡ some w → big ≤ key κ w
+  pub least-big :
+      (f : Bool) (p : Part) (m : ℕ) → leastKey big κ A B f p m ≡ big → (w : Word) → bestAt κ A B f p m ≡ some w → big ≤ key κ w
   unfolding leastKey keyOr
   least-big f p m h w e = omega (arith, rw e at h)

@@ -4,7 +4,7 @@
 --
 -- Definitions only, in this order: a word's key; the cut grid; the least of a list; the best word at a point; the least key as a
 -- number. Bests has the laws, BestOfAll the costs that make the best word that of document 01's best chain.
-use mathlib.Core.Bool.{Bool, true, false, cond, _&&_}
+use mathlib.Core.Bool.{Bool, true, cond, _&&_}
 use mathlib.Core.List.{List, [], _∷_}
 use mathlib.Core.Option.{Option, none, some}
 use Prim.Native.Nat.{ℕ, zero, suc, _+_, min}
