@@ -1,0 +1,3 @@
+-- Hexadecimal digits and numbers. Digits holds the definitions, DigitLaws the theory.
+pub mod Digits
+pub mod DigitLaws

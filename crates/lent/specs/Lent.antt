@@ -1,0 +1,44 @@
+-- What a service leaves in memory that it was lent: document 01, 'Services and memory'. The scratch, the places and the reply all
+-- follow one rule: what the service gives, then zeros up to the size that it asks for, and everything later as it was.
+--
+-- In this order: zeros, and the rule; the length is kept; the rule where a part of that size was zeroed; a store from the back.
+use mathlib.Core.Path.{_≡_, refl, ap}
+use mathlib.Core.List.{List, [], _∷_, _++_}
+use Prim.Native.Nat.{ℕ, zero, suc, _-_, _≤_, _<_}
+use native.Mathlib.Omega.{arith}
+use lib.ListN.{length, drop, set, replicate, length-append, length-drop, length-replicate}
+use lib.Seq.{length-take-le}
+use borrow.Rule.Slice.PartMut.{midOf, putMid}
+
+-- Never computed at a long length: opened only in laws over a variable.
+unfoldable pub zeros : ℕ → List ℕ
+zeros k = replicate k 0
+
+-- At exit, where `entry` stood at entry: xs, then zeros up to `size`, later ones untouched. A scratch is left with no xs.
+unfoldable pub filled : ℕ → List ℕ → List ℕ → List ℕ
+filled size xs entry = xs ++ (zeros (size - length xs) ++ drop size entry)
+
+pub length-zeros : (k : ℕ) → length (zeros k) ≡ k
+unfolding zeros
+length-zeros k = length-replicate k 0
+
+-- Memory keeps its length.
+pub length-filled : (size : ℕ) (xs entry : List ℕ) → length xs ≤ size → size ≤ length entry
+    → length (filled size xs entry) ≡ length entry
+unfolding filled
+length-filled size xs entry h k = simp (length-append, length-zeros, length-drop) (omega arith)
+
+-- The first `size` of the memory, lent on and given back as zeros.
+pub cleared : (size : ℕ) (entry : List ℕ) → size ≤ length entry
+    → putMid 0 size entry (zeros (length (midOf 0 size entry))) ≡ filled size [] entry
+unfolding filled
+cleared size entry h = ap (λ (k : ℕ). zeros k ++ drop size entry) (omega (arith, length-take-le size entry h))
+
+-- Over zeros, from the back: a store before t, which is what was stored so far and what follows it.
+pub store-back : (j x : ℕ) (t : List ℕ) → 0 < j → set (zeros j ++ t) (j - 1) x ≡ zeros (j - 1) ++ (x ∷ t)
+unfolding zeros
+store-back j x t h = go (j - 1) j (omega arith)
+  where
+    go : (i k : ℕ) → k ≡ suc i → set (replicate k 0 ++ t) i x ≡ replicate i 0 ++ (x ∷ t)
+    go zero k e = rw e
+    go (suc i) k e = rw e (ap (λ (l : List ℕ). 0 ∷ l) (go i (suc i) refl))

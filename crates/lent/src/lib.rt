@@ -1,0 +1,37 @@
+// Zeroing lent memory, at each width that the services are lent: the scratch, the places for part numbers, letters and digits.
+ghost use mathlib.Core.Path.{_≡_};
+ghost use lib.ListN.{length};
+ghost use Rattle.lent.specs.Lent.{zeros};
+
+// Zeroes all of a lent part.
+pub fn clear_u64(part: &mut [u64])
+    ensures { λ _. ⌜ now (part .exit) ≡ zeros (length (now (part .entry))) ⌝ }
+{
+    let mut i = 0;
+    while i < part.len() {
+        part[i] = 0;
+        i += 1;
+    }
+}
+
+// The same of numbers of 16 bits.
+pub fn clear_u16(part: &mut [u16])
+    ensures { λ _. ⌜ now (part .exit) ≡ zeros (length (now (part .entry))) ⌝ }
+{
+    let mut i = 0;
+    while i < part.len() {
+        part[i] = 0;
+        i += 1;
+    }
+}
+
+// The same of bytes.
+pub fn clear_u8(part: &mut [u8])
+    ensures { λ _. ⌜ now (part .exit) ≡ zeros (length (now (part .entry))) ⌝ }
+{
+    let mut i = 0;
+    while i < part.len() {
+        part[i] = 0;
+        i += 1;
+    }
+}
