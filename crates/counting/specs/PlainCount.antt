@@ -1,21 +1,17 @@
 -- What the plain count answers: document 01, 'Counting by the remainder' and 'What a refused line or call gets'.
 -- The definition, then the same as one law for each of its two cases.
 use mathlib.Core.Path.{_≡_}
-use mathlib.Core.Bool.{Bool, true, false}
+use mathlib.Core.Bool.{cond}
 use Prim.Native.Nat.{ℕ, _≤_, _<_}
 use lib.Dec.{leb}
 use borrow.Author.Tests.{le-leb, lt-leb}
 use Rattle.chains.specs.Listing.{count}
-use Rattle.counting.specs.declared.Plain.{Plain}
-use Rattle.counting.specs.declared.Plain.the-variants.{Count, Refused}
-
-abbrev pub pick : Bool → Plain → Plain → Plain
-pick true p q = p
-pick false p q = q
+use Rattle.counting.specs.declared.Counted.{Counted}
+use Rattle.counting.specs.declared.Counted.the-variants.{Count, Refused}
 
 -- The count of n where n is at most 65,535, and refusal 12 above.
-unfoldable pub plainOf : ℕ → Plain
-plainOf n = pick (leb n 65535) (Count (count n)) (Refused 12)
+unfoldable pub plainOf : ℕ → Counted
+plainOf n = cond (leb n 65535) (Count (count n)) (Refused 12)
 
 pub plain-served : (n : ℕ) → n ≤ 65535 → plainOf n ≡ Count (count n)
 unfolding plainOf

@@ -28,11 +28,13 @@ pub length-filled : (size : ℕ) (xs entry : List ℕ) → length xs ≤ size �
 unfolding filled
 length-filled size xs entry h k = simp (length-append, length-zeros, length-drop) (omega arith)
 
--- The first `size` of the memory, lent on and given back as zeros.
-pub cleared : (size : ℕ) (entry : List ℕ) → size ≤ length entry
-    → putMid 0 size entry (zeros (length (midOf 0 size entry))) ≡ filled size [] entry
+-- At the end the first `size` of the memory l are lent on and come back as zeros; behind them l is as it was at entry.
+pub cleared : (size : ℕ) (entry l ys : List ℕ) → size ≤ length l → drop size l ≡ drop size entry → ys ≡ zeros (length (midOf 0 size l))
+    → putMid 0 size l ys ≡ filled size [] entry
 unfolding filled
-cleared size entry h = ap (λ (k : ℕ). zeros k ++ drop size entry) (omega (arith, length-take-le size entry h))
+cleared size entry l ys h e z =
+    let k : length (midOf 0 size l) ≡ size - 0 = omega (arith, length-take-le size l h) in
+    rw (z, k, e)
 
 -- Over zeros, from the back: a store before t, which is what was stored so far and what follows it.
 pub store-back : (j x : ℕ) (t : List ℕ) → 0 < j → set (zeros j ++ t) (j - 1) x ≡ zeros (j - 1) ++ (x ∷ t)

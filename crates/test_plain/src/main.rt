@@ -2,8 +2,8 @@
 // count or the number of the refusal.
 fn tell(n: u64) {
     let told = match counting::plain_count(n) {
-        counting::Plain::Count(w) => w,
-        counting::Plain::Refused(k) => k as u64,
+        counting::Counted::Count(w) => w,
+        counting::Counted::Refused(k) => k as u64,
     };
     io::print_decimal(1, told);
     io::write_all(1, b"\n");

@@ -1,0 +1,113 @@
+-- The table of counts. A cell holds how many words its reader can go on with at its rest, and 0 where the rest is 0.
+--
+-- In this order: the meaning of a cell; what filling the table leaves in the scratch; the cells of a row, each from the one right of
+-- it and the one above it, with no choice on the remainder; the count of n in a table.
+use mathlib.Core.Path.{_≡_, refl, _∙_}
+use mathlib.Core.Bool.{Bool, true, false}
+use mathlib.Core.List.{List}
+use Prim.Native.Nat.{ℕ, zero, suc, _+_, _-_, _*_, _/_, _%_, _^_, _≤_, _<_}
+use native.Mathlib.Omega.{arith}
+use native.Mathlib.Nat.{div-one}
+use lib.ListN.{getD}
+use Rattle.chains.specs.Listing.{count}
+use Rattle.chains.specs.Counts.{
+  ways,
+  count-ways,
+  ways-rem-0-free,
+  ways-rem-0-after-a,
+  ways-rem-1,
+  ways-rem-2,
+  ways-at-most,
+  ways-pos,
+}
+use Rattle.grid.specs.Grid.{Meaning, RowFrom, Row, Table, RowAsked, RowFilled, RowsFilled}
+use Rattle.grid.specs.Fill.{read-free}
+
+-- How many words the reader can go on with at the rest m; none where nothing is left, so that a table has zeros there.
+unfoldable pub waysIn : Bool → ℕ → ℕ
+waysIn f zero = 0
+waysIn f (suc m) = ways f (suc m)
+
+-- The point itself makes no difference.
+abbrev pub countCell : Meaning
+countCell a b f m = waysIn f m
+
+-- The scratch holds the table of n, and what stands behind it is as it was at entry.
+abbrev pub CountsIn : ℕ → List ℕ → List ℕ → Type 0
+CountsIn n entry exit = RowsFilled countCell 0 n entry exit
+
+-- What a cell is made from, where its rest is 2 or more: the number of the reader after a has risen in the column right of it, where
+-- the rest is half of it, and that of the free reader in the row above, where it is a third.
+pub record CellAsked (rest third right above : ℕ) : Type 0 where
+  pub live : 2 ≤ rest
+  pub fits : rest < 2 ^ 64
+  pub at-third : third ≡ rest / 3
+  pub at-right : right ≡ waysIn false (rest / 2)
+  pub at-above : above ≡ waysIn true third
+
+-- What the columns below `top` of a row ask: the part, in which the columns from `top` on are filled; the rest at `top` is 1.
+pub record LiveAsked (m q top : ℕ) (part : List ℕ) : Type 0 where
+  pub asked : RowAsked countCell 0 m q part
+  pub last : top < 64
+  pub at-top : m / 2 ^ top ≡ 1
+  pub filled : RowFrom countCell 0 m top part
+
+-- A cell does not depend on its row, so one row step serves every row: it fills the row at the start of its part as row 0.
+row-of-any : {b m j : ℕ} {l : List ℕ} (c : ℕ) → RowFrom countCell b m j l → RowFrom countCell c m j l
+row-of-any c r = record { free = r .free; after-a = r .after-a }
+
+pub asked-of-any : {b m q : ℕ} {part : List ℕ} (c : ℕ) → RowAsked countCell b m q part → RowAsked countCell c m q part
+asked-of-any c r =
+    record {
+      third = r .third;
+      room = r .room;
+      room-above = r .room-above;
+      above = λ two. row-of-any (suc c) (r .above two);
+    }
+
+pub filled-of-any : {b m j : ℕ} {entry part : List ℕ} (c : ℕ) → RowFilled countCell b m j entry part → RowFilled countCell c m j entry part
+filled-of-any c f = record { row = row-of-any c (f .row); same = f .same; later = f .later }
+
+-- ---- the cells
+
+pub cell-live : (f : Bool) (m : ℕ) → 1 ≤ m → waysIn f m ≡ ways f m
+unfolding waysIn
+cell-live f zero h = absurd (omega arith)
+cell-live f (suc m) h = refl
+
+pub cell-dead : (f : Bool) → waysIn f 0 ≡ 0
+unfolding waysIn
+cell-dead f = refl
+
+pub cell-at-1 : (f : Bool) → waysIn f 1 ≡ 1
+cell-at-1 f = omega (arith, cell-live f 1 (omega arith), ways-at-most f 1 (omega arith), ways-pos f 1 (omega arith))
+
+pub cell-at-most : (f : Bool) (m : ℕ) → waysIn f m ≤ m
+unfolding waysIn
+cell-at-most f zero = omega arith
+cell-at-most f (suc m) = ways-at-most f (suc m) (omega arith)
+
+-- From a rest of 2 on, the remainder by three says whether the cell above counts: for the reader after a has risen where it is 1, for
+-- the free reader also where it is 0. The two factors are 0 or 1.
+pub cell-after-a : (m : ℕ) → 2 ≤ m → waysIn false m ≡ waysIn false (m / 2) + waysIn true (m / 3) * (m % 3 % 2)
+cell-after-a m h = go (m % 3) refl
+  where
+    go : (r : ℕ) → m % 3 ≡ r → waysIn false m ≡ waysIn false (m / 2) + waysIn true (m / 3) * (r % 2)
+    go zero e = omega (arith, cell-live false m (omega arith), cell-live false (m / 2) (omega arith), ways-rem-0-after-a m (omega arith) e)
+    go (suc zero) e = omega (arith, cell-live false m (omega arith), cell-live false (m / 2) (omega arith), cell-live true (m / 3) (omega arith), ways-rem-1 false m e)
+    go (suc (suc zero)) e = omega (arith, cell-live false m (omega arith), cell-live false (m / 2) (omega arith), ways-rem-2 false m e)
+    go (suc (suc (suc r))) e = absurd (omega arith)
+
+pub cell-free : (m : ℕ) → 2 ≤ m → waysIn true m ≡ waysIn false m + waysIn true (m / 3) * ((2 - m % 3) / 2)
+cell-free m h = go (m % 3) refl
+  where
+    go : (r : ℕ) → m % 3 ≡ r → waysIn true m ≡ waysIn false m + waysIn true (m / 3) * ((2 - r) / 2)
+    go zero e = omega (arith, cell-live true m (omega arith), cell-live false m (omega arith), cell-live true (m / 3) (omega arith), ways-rem-0-free m (omega arith) e, ways-rem-0-after-a m (omega arith) e)
+    go (suc zero) e = omega (arith, cell-live true m (omega arith), cell-live false m (omega arith), ways-rem-1 true m e, ways-rem-1 false m e)
+    go (suc (suc zero)) e = omega (arith, cell-live true m (omega arith), cell-live false m (omega arith), ways-rem-2 true m e, ways-rem-2 false m e)
+    go (suc (suc (suc r))) e = absurd (omega arith)
+
+-- ---- reading the count
+
+pub count-in : (n : ℕ) (l : List ℕ) → 1 ≤ n → Table countCell n l → getD l 0 0 ≡ count n
+count-in n l h t = read-free countCell n l 0 0 t (omega arith) (omega arith) ∙ rw (div-one, div-one, cell-live true n h, count-ways)

@@ -1,0 +1,74 @@
+-- What the table count answers and leaves in the scratch: document 01, 'Services and memory' and 'What a refused line or call gets'.
+--
+-- In this order: the answer, the scratch at exit, what filling the table alone leaves; the two cases of each, as laws, with what a
+-- caller of `fill_counts` has from its answer; that the table count and the plain count agree where both serve.
+use mathlib.Core.Path.{_≡_, sym, _∙_}
+use mathlib.Core.Bool.{Bool, true, false, cond}
+use mathlib.Core.List.{List, []}
+use Prim.Native.Nat.{ℕ, _≤_, _<_}
+use native.Mathlib.Omega.{arith}
+use lib.Dec.{leb}
+use lib.ListN.{length}
+use borrow.Author.Tests.{le-leb, lt-leb, leb-true, leb-false}
+use borrow.Rule.Slice.PartMut.{midOf, putMid}
+use Rattle.chains.specs.Listing.{count}
+use Rattle.lent.specs.Lent.{zeros, filled, cleared}
+use Rattle.grid.specs.Grid.{scratchSize}
+use Rattle.counting.specs.declared.Counted.{Counted}
+use Rattle.counting.specs.declared.Counted.the-variants.{Count, Refused}
+use Rattle.counting.specs.PlainCount.{plainOf, plain-served}
+use Rattle.counting.specs.Table.{CountsIn}
+
+-- The count of n where the scratch has at least 5,248 numbers, and refusal 1 below.
+unfoldable pub countedOf : ℕ → ℕ → Counted
+countedOf n size = cond (leb scratchSize size) (Count (count n)) (Refused 1)
+
+-- The scratch at exit: untouched with refusal 1, else its first 5,248 numbers are zero and the rest is untouched.
+unfoldable pub scratchAfter : List ℕ → List ℕ
+scratchAfter entry = cond (leb scratchSize (length entry)) (filled scratchSize [] entry) entry
+
+-- The scratch once the table of n was asked for, where r tells whether it had room: it holds the table, or nothing was touched.
+pub record TableAsked (r : Bool) (n : ℕ) (entry exit : List ℕ) : Type 0 where
+  pub there : r ≡ true → CountsIn n entry exit
+  pub untouched : r ≡ false → exit ≡ entry
+
+-- ---- the two cases
+
+pub counted-served : (n size : ℕ) → scratchSize ≤ size → countedOf n size ≡ Count (count n)
+unfolding countedOf
+counted-served n size h = rw (le-leb scratchSize size h)
+
+pub counted-refused : (n size : ℕ) → size < scratchSize → countedOf n size ≡ Refused 1
+unfolding countedOf
+counted-refused n size h = rw (lt-leb scratchSize size h)
+
+pub after-served : (entry : List ℕ) → scratchSize ≤ length entry → scratchAfter entry ≡ filled scratchSize [] entry
+unfolding scratchAfter
+after-served entry h = rw (le-leb scratchSize (length entry) h)
+
+pub after-refused : (entry : List ℕ) → length entry < scratchSize → scratchAfter entry ≡ entry
+unfolding scratchAfter
+after-refused entry h = rw (lt-leb scratchSize (length entry) h)
+
+-- ---- what the answer of `fill_counts` tells, and the scratch l that it leaves
+
+module _ {r : Bool} {n : ℕ} {entry l : List ℕ} (f : (r ≡ leb scratchSize (length entry)) × TableAsked r n entry l) where
+  pub asked-no-room : r ≡ false → length entry < scratchSize
+  asked-no-room h = leb-false scratchSize (length entry) (sym (f .0) ∙ h)
+
+  pub asked-room : r ≡ true → scratchSize ≤ length entry
+  asked-room h = leb-true scratchSize (length entry) (sym (f .0) ∙ h)
+
+  pub asked-still-room : r ≡ true → scratchSize ≤ length l
+  asked-still-room h = omega (arith, asked-room h, f .1 .there h .same)
+
+  -- The first 5,248 numbers, lent on and zeroed, come back as ys.
+  pub asked-cleared : r ≡ true → (ys : List ℕ) → ys ≡ zeros (length (midOf 0 scratchSize l)) → putMid 0 scratchSize l ys ≡ scratchAfter entry
+  asked-cleared h ys z =
+      cleared scratchSize entry l ys (asked-still-room h) (f .1 .there h .later) z ∙ sym (after-served entry (asked-room h))
+
+-- ---- both counts
+
+-- Document 01, 'Counting by the remainder': both agree where both serve.
+pub counts-agree : (n size : ℕ) → n ≤ 65535 → scratchSize ≤ size → countedOf n size ≡ plainOf n
+counts-agree n size h k = counted-served n size k ∙ sym (plain-served n h)

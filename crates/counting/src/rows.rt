@@ -1,0 +1,109 @@
+// Filling the table of counts: document 01's scratch, each of its 41 rows lent on as a part that starts in the middle, and filled
+// there by one row step.
+//
+// A row is filled from its last column down, each cell from the one right of it and the one above it. The rest of column a is m >> a,
+// its third q >> a, where m and q are the rests of the first columns of the row and of the row above, so nothing is divided, and the
+// remainder by three is a factor and no branch.
+ghost use mathlib.Core.Path.{_≡_};
+ghost use mathlib.Core.Bool.{true, false};
+ghost use Prim.Native.Nat.{_+_, _*_, _^_, _≤_, _<_};
+ghost use lib.ListN.{length};
+ghost use Rattle.chains.specs.Listing.{count};
+ghost use Rattle.grid.specs.Grid.{Table, RowAsked, RowFilled, RowsAsked, RowsFilled};
+ghost use Rattle.counting.specs.Table.{waysIn, countCell, CellAsked, LiveAsked};
+
+// How many columns of a row are live, where m is the rest of its first column: as many as m has bits.
+fn live_columns(m: u64) -> usize
+    ensures { λ r. ⌜ (r ≤ 64) × (m < 2 ^ r) × (2 ^ r ≤ 2 * m + 1) ⌝ }
+{
+    64 - u64::leading_zeros(m) as usize
+}
+
+// The dead columns, from `live` on: the rest is 0 there, and so are the numbers.
+fn clear_dead(part: &mut [u64], m: u64, live: usize)
+    requires { ⌜ (m < 2 ^ live) × (live ≤ 64) × (128 ≤ length (now part)) ⌝ }
+    ensures { λ _. ⌜ RowFilled countCell 0 m live (now (part .entry)) (now (part .exit)) ⌝ }
+{
+    let mut a = 64;
+    while live < a {
+        a -= 1;
+        part[2 * a] = 0;
+        part[2 * a + 1] = 0;
+    }
+}
+
+// The two numbers of a cell: that of the free reader, and that of the reader after a has risen.
+struct Cell {
+    free: u64,
+    risen: u64,
+}
+
+// A cell from the one right of it and the one above it. The remainder by three is 0, 1 or 2: the number above counts for both readers
+// where it is 1, and where it is 0 for the free reader alone.
+fn cell_from(rest: u64, third: u64, right: u64, above: u64) -> Cell
+    requires { ⌜ CellAsked rest third right above ⌝ }
+    ensures { λ r. ⌜ (r .free ≡ waysIn true rest) × (r .risen ≡ waysIn false rest) ⌝ }
+{
+    let rem = rest - 3 * third;
+    let risen = right + above * (rem % 2);
+    let free = risen + above * ((2 - rem) / 2);
+    Cell { free, risen }
+}
+
+// The live columns below `top`, from there down.
+fn fill_live(part: &mut [u64], m: u64, q: u64, top: usize)
+    requires { ⌜ LiveAsked m q top (now part) ⌝ }
+    ensures { λ _. ⌜ RowFilled countCell 0 m 0 (now (part .entry)) (now (part .exit)) ⌝ }
+{
+    let mut right = 1;
+    let mut a = top;
+    while 0 < a {
+        a -= 1;
+        let c = cell_from(m >> a, q >> a, right, part[128 + 2 * a]);
+        right = c.risen;
+        part[2 * a + 1] = right;
+        part[2 * a] = c.free;
+    }
+}
+
+// The row step: one row, in the part that begins at it, the row above at 128. The last live column has the rest 1, and for both
+// readers one way.
+fn fill_row(part: &mut [u64], m: u64, q: u64)
+    requires { ⌜ RowAsked countCell 0 m q (now part) ⌝ }
+    ensures { λ _. ⌜ RowFilled countCell 0 m 0 (now (part .entry)) (now (part .exit)) ⌝ }
+{
+    let live = live_columns(m);
+    clear_dead(part, m, live);
+    if live == 0 {
+        return;
+    }
+    let top = live - 1;
+    part[2 * top + 1] = 1;
+    part[2 * top] = 1;
+    fill_live(part, m, q, top);
+}
+
+// The rows from b on, where m is the rest of row b's first column: those above first.
+pub fn fill_rows(scratch: &mut [u64], b: usize, m: u64)
+    requires { ⌜ RowsAsked b m (now scratch) ⌝ }
+    ensures { λ _. ⌜ RowsFilled countCell b m (now (scratch .entry)) (now (scratch .exit)) ⌝ }
+{
+    if b == 41 {
+        return;
+    }
+    let q = m / 3;
+    fill_rows(scratch, b + 1, q);
+    let at = 128 * b;
+    fill_row(&mut scratch[at..], m, q);
+}
+
+// The count of n in its table, where 0 stands for an empty rest: the number 0 has one chain, the empty one.
+pub fn count_in(n: u64, scratch: &[u64]) -> u64
+    requires { ⌜ Table countCell n (now scratch) × (5248 ≤ length (now scratch)) ⌝ }
+    ensures { λ r. ⌜ r ≡ count n ⌝ }
+{
+    if n == 0 {
+        return 1;
+    }
+    scratch[0]
+}
