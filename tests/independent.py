@@ -59,6 +59,24 @@ def chains_of(n):
     return found
 
 
+COUNTS = {0: 1, 1: 1}
+
+
+def count(n):
+    """The count of any n by 003's relations on n itself, remembered; whole numbers of any size."""
+    if n not in COUNTS:
+        u, r = divmod(n, 6)
+        COUNTS[n] = {
+            0: lambda: count(2 * u) + count(3 * u) - count(u),
+            1: lambda: count(2 * u) + count(3 * u) - count(u),
+            2: lambda: count(3 * u + 1),
+            3: lambda: count(3 * u + 1) + count(2 * u + 1),
+            4: lambda: count(3 * u + 2) + count(2 * u + 1),
+            5: lambda: count(3 * u + 2),
+        }[r]()
+    return COUNTS[n]
+
+
 def word_of(chain):
     """The walk from (0, 0) to the largest part through all parts, b before a wherever the parts allow both."""
     if not chain:
@@ -112,7 +130,9 @@ def check_003():
     assert [counts[n] for n in (0, 1, 3, 5, 6, 9, 19, 21, 27)] == [1, 1, 2, 1, 2, 4, 4, 5, 7]
     assert min(len(c) for _, c in lists[29]) == 3
     assert len(TABLE) == 1344 and [VALUE[p] for p in TABLE[:14]] == [1, 2, 3, 4, 6, 8, 9, 12, 16, 18, 24, 27, 32, 36]
+    assert count((2**36 * 3**19 - 27) // 5) == 16152526311 and count(10**6) == 497 and count(3 * 2**62 - 1) == 1
     for n, entries in enumerate(lists):
+        assert count(n) == len(entries)
         assert all(good(w) for w, _ in entries) and len({w for w, _ in entries}) == len(entries)
 
 
@@ -131,6 +151,42 @@ def test_plain():
     yield "12"
     yield "12"
     yield str(len(chains_of(65535)))
+
+
+@what
+def test_chains_stdin():
+    """The records of all chains of 0 to 300, those of a number in the order of its list."""
+    for entries in listing(300):
+        for _, chain in entries:
+            yield " ".join(str(NUMBER[p]) for p in chain)
+
+
+@what
+def test_chains():
+    """Their sums and words, and how the word before stands to each."""
+    before = ""
+    for n, entries in enumerate(listing(300)):
+        for word, _ in entries:
+            yield f"{n} {word} " + ("<" if before < word else "=" if before == word else ">")
+            before = word
+
+
+SPECIAL = [65535, 65536, 10**6, 2**32 - 1, 2**32, 10**18, 3**19 - 1, 3**19, 3**19 + 1, 2**30 * 3**19, 2**62 - 1, 2**62]
+SPECIAL += [2**63 - 1, 2**63, 2**63 + 1, 3**40 - 1, 3**40, 3**40 + 1, 3 * 2**62 - 1, 3 * 2**62, (2**36 * 3**19 - 27) // 5]
+SPECIAL += [3**34 * 1000, 2**64 - 2, 2**64 - 1]
+
+
+@what
+def test_table():
+    """A count a line, then where the zeros that the scratch begins with end, and where the ones after them end."""
+    quotients = [(LIMIT - 1) // d for d in range(1, 501)]
+    for n in range(2001):
+        yield f"{count(n)} 5248 5248"
+    for size in (5248, 6000):
+        for n in quotients + SPECIAL:
+            yield f"{count(n)} 5248 {size}"
+    for n in SPECIAL:
+        yield "1 0 5247"
 
 
 def number_or_dash(a, b):

@@ -1,7 +1,8 @@
 -- The table of counts. A cell holds how many words its reader can go on with at its rest, and 0 where the rest is 0.
 --
--- In this order: the meaning of a cell; what filling the table leaves in the scratch; the cells of a row, each from the one right of
--- it and the one above it, with no choice on the remainder; the count of n in a table.
+-- In this order: the meaning of a cell, and what filling the table leaves in the scratch; what the steps of a row ask; that one row
+-- step serves every row; each cell from the one right of it and the one above it, with no choice on the remainder; the count of n
+-- in a table.
 use mathlib.Core.Path.{_≡_, refl, _∙_}
 use mathlib.Core.Bool.{Bool, true, false}
 use mathlib.Core.List.{List}
@@ -20,7 +21,7 @@ use Rattle.chains.specs.Counts.{
   ways-at-most,
   ways-pos,
 }
-use Rattle.grid.specs.Grid.{Meaning, RowFrom, Row, Table, RowAsked, RowFilled, RowsFilled}
+use Rattle.grid.specs.Grid.{Meaning, RowFrom, Table, RowAsked, RowFilled, RowsFilled}
 use Rattle.grid.specs.Fill.{read-free}
 
 -- How many words the reader can go on with at the rest m; none where nothing is left, so that a table has zeros there.
@@ -36,8 +37,8 @@ countCell a b f m = waysIn f m
 abbrev pub CountsIn : ℕ → List ℕ → List ℕ → Type 0
 CountsIn n entry exit = RowsFilled countCell 0 n entry exit
 
--- What a cell is made from, where its rest is 2 or more: the number of the reader after a has risen in the column right of it, where
--- the rest is half of it, and that of the free reader in the row above, where it is a third.
+-- What a cell is made from, where its rest is 2 or more: the number of the reader after a has risen in the column right of it,
+-- where the rest is half of it, and that of the free reader in the row above, where it is a third.
 pub record CellAsked (rest third right above : ℕ) : Type 0 where
   pub live : 2 ≤ rest
   pub fits : rest < 2 ^ 64
@@ -52,6 +53,8 @@ pub record LiveAsked (m q top : ℕ) (part : List ℕ) : Type 0 where
   pub at-top : m / 2 ^ top ≡ 1
   pub filled : RowFrom countCell 0 m top part
 
+-- ---- one step for every row
+
 -- A cell does not depend on its row, so one row step serves every row: it fills the row at the start of its part as row 0.
 row-of-any : {b m j : ℕ} {l : List ℕ} (c : ℕ) → RowFrom countCell b m j l → RowFrom countCell c m j l
 row-of-any c r = record { free = r .free; after-a = r .after-a }
@@ -65,7 +68,8 @@ asked-of-any c r =
       above = λ two. row-of-any (suc c) (r .above two);
     }
 
-pub filled-of-any : {b m j : ℕ} {entry part : List ℕ} (c : ℕ) → RowFilled countCell b m j entry part → RowFilled countCell c m j entry part
+pub filled-of-any : {b m j : ℕ} {entry part : List ℕ} (c : ℕ) → RowFilled countCell b m j entry part
+    → RowFilled countCell c m j entry part
 filled-of-any c f = record { row = row-of-any c (f .row); same = f .same; later = f .later }
 
 -- ---- the cells
@@ -87,24 +91,35 @@ unfolding waysIn
 cell-at-most f zero = omega arith
 cell-at-most f (suc m) = ways-at-most f (suc m) (omega arith)
 
--- From a rest of 2 on, the remainder by three says whether the cell above counts: for the reader after a has risen where it is 1, for
--- the free reader also where it is 0. The two factors are 0 or 1.
+-- From a rest of 2 on, the remainder by three says whether the cell above counts: for the reader after a has risen where it is 1,
+-- for the free reader also where it is 0. The two factors are 0 or 1.
 pub cell-after-a : (m : ℕ) → 2 ≤ m → waysIn false m ≡ waysIn false (m / 2) + waysIn true (m / 3) * (m % 3 % 2)
 cell-after-a m h = go (m % 3) refl
   where
+    here : waysIn false m ≡ ways false m
+    here = cell-live false m (omega arith)
+
+    right : waysIn false (m / 2) ≡ ways false (m / 2)
+    right = cell-live false (m / 2) (omega arith)
+
     go : (r : ℕ) → m % 3 ≡ r → waysIn false m ≡ waysIn false (m / 2) + waysIn true (m / 3) * (r % 2)
-    go zero e = omega (arith, cell-live false m (omega arith), cell-live false (m / 2) (omega arith), ways-rem-0-after-a m (omega arith) e)
-    go (suc zero) e = omega (arith, cell-live false m (omega arith), cell-live false (m / 2) (omega arith), cell-live true (m / 3) (omega arith), ways-rem-1 false m e)
-    go (suc (suc zero)) e = omega (arith, cell-live false m (omega arith), cell-live false (m / 2) (omega arith), ways-rem-2 false m e)
+    go zero e = omega (arith, here, right, ways-rem-0-after-a m (omega arith) e)
+    go (suc zero) e = omega (arith, here, right, cell-live true (m / 3) (omega arith), ways-rem-1 false m e)
+    go (suc (suc zero)) e = omega (arith, here, right, ways-rem-2 false m e)
     go (suc (suc (suc r))) e = absurd (omega arith)
 
 pub cell-free : (m : ℕ) → 2 ≤ m → waysIn true m ≡ waysIn false m + waysIn true (m / 3) * ((2 - m % 3) / 2)
 cell-free m h = go (m % 3) refl
   where
+    here : (f : Bool) → waysIn f m ≡ ways f m
+    here f = cell-live f m (omega arith)
+
     go : (r : ℕ) → m % 3 ≡ r → waysIn true m ≡ waysIn false m + waysIn true (m / 3) * ((2 - r) / 2)
-    go zero e = omega (arith, cell-live true m (omega arith), cell-live false m (omega arith), cell-live true (m / 3) (omega arith), ways-rem-0-free m (omega arith) e, ways-rem-0-after-a m (omega arith) e)
-    go (suc zero) e = omega (arith, cell-live true m (omega arith), cell-live false m (omega arith), ways-rem-1 true m e, ways-rem-1 false m e)
-    go (suc (suc zero)) e = omega (arith, cell-live true m (omega arith), cell-live false m (omega arith), ways-rem-2 true m e, ways-rem-2 false m e)
+    go zero e =
+        let above = cell-live true (m / 3) (omega arith) in
+        omega (arith, here true, here false, ways-rem-0-free m (omega arith) e, ways-rem-0-after-a m (omega arith) e)
+    go (suc zero) e = omega (arith, here true, here false, ways-rem-1 true m e, ways-rem-1 false m e)
+    go (suc (suc zero)) e = omega (arith, here true, here false, ways-rem-2 true m e, ways-rem-2 false m e)
     go (suc (suc (suc r))) e = absurd (omega arith)
 
 -- ---- reading the count

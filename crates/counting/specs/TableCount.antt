@@ -1,4 +1,5 @@
--- What the table count answers and leaves in the scratch: document 01, 'Services and memory' and 'What a refused line or call gets'.
+-- What the table count answers and leaves in the scratch: document 01, 'Services and memory' and 'What a refused line or call
+-- gets'.
 --
 -- In this order: the answer, the scratch at exit, what filling the table alone leaves; the two cases of each, as laws, with what a
 -- caller of `fill_counts` has from its answer; that the table count and the plain count agree where both serve.
@@ -63,7 +64,8 @@ module _ {r : Bool} {n : ℕ} {entry l : List ℕ} (f : (r ≡ leb scratchSize (
   asked-still-room h = omega (arith, asked-room h, f .1 .there h .same)
 
   -- The first 5,248 numbers, lent on and zeroed, come back as ys.
-  pub asked-cleared : r ≡ true → (ys : List ℕ) → ys ≡ zeros (length (midOf 0 scratchSize l)) → putMid 0 scratchSize l ys ≡ scratchAfter entry
+  pub asked-cleared : r ≡ true → (ys : List ℕ) → ys ≡ zeros (length (midOf 0 scratchSize l))
+      → putMid 0 scratchSize l ys ≡ scratchAfter entry
   asked-cleared h ys z =
       cleared scratchSize entry l ys (asked-still-room h) (f .1 .there h .later) z ∙ sym (after-served entry (asked-room h))
 

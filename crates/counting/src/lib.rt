@@ -1,7 +1,7 @@
 // How many chains a number has.
 //
-// The plain count works by the recursion of document 01, 'Counting by the remainder', without scratch. The table count fills a table of
-// the counts at all points of the walk, row by row, in the scratch that it is lent.
+// The plain count works by the recursion of document 01, 'Counting by the remainder', without scratch. The table count fills a
+// table of the counts at all points of the walk, row by row, in the scratch that it is lent.
 mod rows;
 mod six_lines;
 
@@ -41,8 +41,8 @@ pub fn fill_counts(n: u64, scratch: &mut [u64]) -> bool
     true
 }
 
-// The count of any n, with a scratch of at least 5,248 numbers, whatever they hold; refusal 1 with a smaller one. Leaves the first 5,248
-// zero, and everything untouched where it refuses.
+// The count of any n, with a scratch of at least 5,248 numbers, whatever they hold; refusal 1 with a smaller one. Leaves the first
+// 5,248 zero, and everything untouched where it refuses.
 pub fn table_count(n: u64, scratch: &mut [u64]) -> Counted
     ensures { λ r. ⌜ r ≡ countedOf n (length (now (scratch .entry))) ⌝ }
     ensures { λ _. ⌜ now (scratch .exit) ≡ scratchAfter (now (scratch .entry)) ⌝ }

@@ -1,9 +1,9 @@
 // Filling the table of counts: document 01's scratch, each of its 41 rows lent on as a part that starts in the middle, and filled
 // there by one row step.
 //
-// A row is filled from its last column down, each cell from the one right of it and the one above it. The rest of column a is m >> a,
-// its third q >> a, where m and q are the rests of the first columns of the row and of the row above, so nothing is divided, and the
-// remainder by three is a factor and no branch.
+// A row is filled from its last column down, each cell from the one right of it and the one above it. The rest of column a is
+// m >> a, its third q >> a, where m and q are the rests of the first columns of the row and of the row above, so no cell is divided,
+// and the remainder by three makes a factor and no branch. A row is 128 numbers: 64 columns of two.
 ghost use mathlib.Core.Path.{_≡_};
 ghost use mathlib.Core.Bool.{true, false};
 ghost use Prim.Native.Nat.{_+_, _*_, _^_, _≤_, _<_};
@@ -38,8 +38,8 @@ struct Cell {
     risen: u64,
 }
 
-// A cell from the one right of it and the one above it. The remainder by three is 0, 1 or 2: the number above counts for both readers
-// where it is 1, and where it is 0 for the free reader alone.
+// A cell from the one right of it and the one above it. The remainder by three is 0, 1 or 2: the number above counts for both
+// readers where it is 1, and where it is 0 for the free reader alone.
 fn cell_from(rest: u64, third: u64, right: u64, above: u64) -> Cell
     requires { ⌜ CellAsked rest third right above ⌝ }
     ensures { λ r. ⌜ (r .free ≡ waysIn true rest) × (r .risen ≡ waysIn false rest) ⌝ }

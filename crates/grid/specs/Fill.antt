@@ -1,8 +1,8 @@
 -- How a row and a table are filled and read, over any meaning of their cells.
 --
--- In this order: a row, from the column behind the last down, one column with its two stores at a time; the rows, from the row behind
--- the last down, each in the part of the scratch that begins at it; reading a cell of the whole table.
-use mathlib.Core.Path.{_≡_, refl, sym, ap, _∙_, subst, subst₂}
+-- In this order: a row, from the column behind the last down, one column with its two stores at a time; the rows, from the row
+-- behind the last down, each in the part of the scratch that begins at it; reading a cell of the whole table.
+use mathlib.Core.Path.{_≡_, refl, sym, _∙_, subst, subst₂}
 use mathlib.Core.Logic.{_≢_, ⊎-elim}
 use mathlib.Core.Bool.{Bool, true, false}
 use mathlib.Core.List.{List}
@@ -13,7 +13,7 @@ use lib.ListN.{length, getD, drop, set, length-set, length-drop}
 use lib.Seq.{getD-set-same, getD-set-other, set-comm, drop-set-lt, getD-drop, drop-drop}
 use borrow.Rule.Slice.PartMut.{midOf, putMid, same-len-mid}
 use Rattle.lent.specs.Parts.{part-lent, part-back, kept-behind}
-use Rattle.grid.specs.Grid.{Meaning, RowFrom, Row, RowsFrom, Table, RowAsked, RowFilled, RowsAsked, RowsFilled}
+use Rattle.grid.specs.Grid.{Meaning, Row, Table, RowAsked, RowFilled, RowsAsked, RowsFilled}
 use Rattle.grid.specs.Rests.{third-of-row, third-below, below-last-row}
 
 -- The rows above row b can be asked for where those from b on can.
@@ -38,7 +38,9 @@ module _ (G : Meaning) where
   column b m j k entry part x y e h g ex ey f =
       record {
         row = record {
-          free = at (λ i. 2 * i) true (λ i l. omega arith) (getD-set-same one (2 * j) x 0 (omega (arith, one-length)) ∙ ex) (f .row .free);
+          free =
+              at (λ i. 2 * i) true (λ i l. omega arith) (getD-set-same one (2 * j) x 0 (omega (arith, one-length)) ∙ ex)
+              (f .row .free);
           after-a =
               at (λ i. 2 * i + 1) false (λ i l. omega arith)
               (getD-set-other one (2 * j) (2 * j + 1) x 0 (omega arith) ∙ getD-set-same part (2 * j + 1) y 0 (omega arith) ∙ ey)
@@ -83,7 +85,8 @@ module _ (G : Meaning) where
   filled-on f g = record { row = g .row; same = g .same ∙ f .same; later = g .later ∙ f .later }
 
   -- The row above is still there while the row is filled,
-  pub asked-still : {b m j q : ℕ} {entry part : List ℕ} → RowAsked G b m q entry → RowFilled G b m j entry part → RowAsked G b m q part
+  pub asked-still : {b m j q : ℕ} {entry part : List ℕ} → RowAsked G b m q entry → RowFilled G b m j entry part
+      → RowAsked G b m q part
   asked-still r f =
       record {
         third = r .third;
@@ -107,7 +110,8 @@ module _ (G : Meaning) where
   own b m = rw (sub-self b) (div-one m)
 
   -- Row b, where the rows from k = b + 1 on are filled.
-  module _ {b m k : ℕ} {entry l : List ℕ} (r : RowsAsked b m entry) (h : b < 41) (e : k ≡ suc b) (f : RowsFilled G k (m / 3) entry l) where
+  module _ {b m k : ℕ} {entry l : List ℕ} (r : RowsAsked b m entry) (h : b < 41) (e : k ≡ suc b)
+      (f : RowsFilled G k (m / 3) entry l) where
     within : 128 * b ≤ length l
     within = omega arith
 
@@ -150,10 +154,12 @@ module _ (G : Meaning) where
 
   -- ---- reading
 
-  pub read-free : (n : ℕ) (l : List ℕ) (a b : ℕ) → Table G n l → a < 64 → b < 41 → getD l (128 * b + 2 * a) 0 ≡ G a b true (n / 3 ^ b / 2 ^ a)
+  pub read-free : (n : ℕ) (l : List ℕ) (a b : ℕ) → Table G n l → a < 64 → b < 41
+      → getD l (128 * b + 2 * a) 0 ≡ G a b true (n / 3 ^ b / 2 ^ a)
   read-free n l a b t ha hb =
       rw (← getD-drop (128 * b) l (2 * a) 0, t .row b (omega arith) hb .free a (omega arith) ha, sub-zero)
 
-  pub read-after-a : (n : ℕ) (l : List ℕ) (a b : ℕ) → Table G n l → a < 64 → b < 41 → getD l (128 * b + 2 * a + 1) 0 ≡ G a b false (n / 3 ^ b / 2 ^ a)
+  pub read-after-a : (n : ℕ) (l : List ℕ) (a b : ℕ) → Table G n l → a < 64 → b < 41
+      → getD l (128 * b + 2 * a + 1) 0 ≡ G a b false (n / 3 ^ b / 2 ^ a)
   read-after-a n l a b t ha hb =
       rw (add-assoc, ← getD-drop (128 * b) l (2 * a + 1) 0, t .row b (omega arith) hb .after-a a (omega arith) ha, sub-zero)

@@ -38,8 +38,8 @@ Table G n l = RowsFrom G 0 n l
 
 -- ---- filling
 
--- What a row step is lent: the part of the scratch that begins at its row, and from a rest of 2 on the row above behind it, which is
--- right; q is the rest of that row's first column. A rest of at most 1 needs no row above, so the last row is no special case.
+-- What a row step is lent: the part of the scratch that begins at its row, and from a rest of 2 on the row above behind it, which
+-- is right; q is the rest of that row's first column. A rest of at most 1 needs no row above, so the last row is no special case.
 pub record RowAsked (G : Meaning) (b m q : ℕ) (part : List ℕ) : Type 0 where
   pub third : q ≡ m / 3
   pub room : 128 ≤ length part
@@ -52,7 +52,7 @@ pub record RowFilled (G : Meaning) (b m j : ℕ) (entry part : List ℕ) : Type 
   pub same : length part ≡ length entry
   pub later : drop 128 part ≡ drop 128 entry
 
--- What filling the rows from b on is lent: a scratch; m is the rest of row b's first column, for which a part stands below 2^64.
+-- What filling the rows from b on is lent: a scratch. m is the rest of row b's first column, so that m × 3^b is at most n.
 pub record RowsAsked (b m : ℕ) (l : List ℕ) : Type 0 where
   pub last : b ≤ 41
   pub room : scratchSize ≤ length l

@@ -1,9 +1,9 @@
--- Arithmetic of rests. In the row whose first column has the rest m, the rest of column a is m / 2^a; in the row above it, whose first
--- column has the rest m / 3, it is m / 3 / 2^a.
+-- Arithmetic of rests. In the row whose first column has the rest m, the rest of column a is m / 2^a; in the row above it, whose
+-- first column has the rest m / 3, it is m / 3 / 2^a.
 --
 -- In this order: the half, the third and the remainder of a rest, which stand in the next column and in the row above; the columns
 -- whose rest is 0, and the last one whose rest is not; the bound on the rest of a row.
-use mathlib.Core.Path.{_≡_, sym, _∙_}
+use mathlib.Core.Path.{_≡_, _∙_}
 use Prim.Native.Nat.{ℕ, suc, _-_, _*_, _^_, _/_, _%_, _≤_, _<_}
 use native.Mathlib.Nat.{
   div-div-eq-div-mul,

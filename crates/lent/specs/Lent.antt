@@ -29,8 +29,8 @@ unfolding filled
 length-filled size xs entry h k = simp (length-append, length-zeros, length-drop) (omega arith)
 
 -- At the end the first `size` of the memory l are lent on and come back as zeros; behind them l is as it was at entry.
-pub cleared : (size : ℕ) (entry l ys : List ℕ) → size ≤ length l → drop size l ≡ drop size entry → ys ≡ zeros (length (midOf 0 size l))
-    → putMid 0 size l ys ≡ filled size [] entry
+pub cleared : (size : ℕ) (entry l ys : List ℕ) → size ≤ length l → drop size l ≡ drop size entry
+    → ys ≡ zeros (length (midOf 0 size l)) → putMid 0 size l ys ≡ filled size [] entry
 unfolding filled
 cleared size entry l ys h e z =
     let k : length (midOf 0 size l) ≡ size - 0 = omega (arith, length-take-le size l h) in

@@ -1,4 +1,5 @@
--- `table_count` meets its contract: the first cell of the table has the count, and the first 5,248 numbers are zeroed after it is read.
+-- `table_count` meets its contract: the first cell of the table has the count, and the first 5,248 numbers are zeroed after it is
+-- read.
 use mathlib.Core.Path.{sym, ap, _∙_}
 use borrow.Author.Needs.{needs}
 use borrow.Author.Tests.{not-true, not-false}
@@ -29,9 +30,10 @@ returns-2 : tie.Need-returns-2
 returns-2 c =
     let counted = c .before .before .before .before in
     let asked = counted .before .before .before .before .before in
-    let served = not-false (asked .fill-counts .result) (counted .before .before .if1 .left) in (
+    let served = not-false (asked .fill-counts .result) (counted .before .before .if1 .left) in
+    let zeroed = c .before .before in (
       ap Count (counted .count-in .ensures) ∙ sym (counted-served _ _ (asked-room (asked .fill-counts .ensures) served)),
-      asked-cleared (asked .fill-counts .ensures) served (c .before .before .clear-u64 .last .0) (c .before .before .clear-u64 .ensures),
+      asked-cleared (asked .fill-counts .ensures) served (zeroed .clear-u64 .last .0) (zeroed .clear-u64 .ensures),
     )
 
 pub table-count-spec : {M : Type 1} → statement M

@@ -1,5 +1,5 @@
--- `rows::fill_rows` meets its contract: what is left of the 41 rows falls at each call. The rows above b are filled, the step of row b is
--- lent its part of the scratch, and what comes back is the rows from b on.
+-- `rows::fill_rows` meets its contract: what is left of the 41 rows falls at each call. The rows above b are filled, the step of
+-- row b is lent its part of the scratch, and what comes back is the rows from b on.
 use mathlib.Core.Path.{_≡_}
 use mathlib.Core.List.{List}
 use Prim.Native.Nat.{ℕ, _+_, _-_, _*_, _/_, _<_}
@@ -23,7 +23,8 @@ use Rattle.counting.proofs.rows.+fill_rows.Tie.{close}
 none : {b m : ℕ} (l : List ℕ) → b ≡ 41 → RowsFilled countCell b m l l
 none {m = m} l e = rw e (no-row countCell m l)
 
-module _ {b m : ℕ} {entry l : List ℕ} (r : RowsAsked b m entry) (ne : b ≡ 41 → ⊥) (f : RowsFilled countCell (b + 1) (m / 3) entry l) where
+module _ {b m : ℕ} {entry l : List ℕ} (r : RowsAsked b m entry) (ne : b ≡ 41 → ⊥)
+    (f : RowsFilled countCell (b + 1) (m / 3) entry l) where
   lent : RowAsked countCell 0 m (m / 3) (midOf (128 * b) (length l - 128 * b) l)
   lent = asked-of-any 0 (row-lent countCell r (omega arith) (add-one b) f)
 
@@ -69,7 +70,9 @@ fill-rows-returns-2 : (t : ℕ) → fill-rows-lts.Need-returns-2 (
 ) (fill-rows-at t) fill-rows.Post
 fill-rows-returns-2 t c =
     let called = c .before .before .before .before .before .before in
-    back (called .before .before .before .before .pre .1) (called .before .before .if1 .left) (called .fill-rows .ensures) (c .before .before .fill-row .last .0) (c .before .before .fill-row .ensures)
+    let filled = c .before .before in
+    back (called .before .before .before .before .pre .1) (called .before .before .if1 .left) (called .fill-rows .ensures)
+    (filled .fill-row .last .0) (filled .fill-row .ensures)
 
 pub +fill-rows-spec : {M : Type 1} → statement M
 +fill-rows-spec = close μ-fill-rows λ t. fill-rows-lts.spec (

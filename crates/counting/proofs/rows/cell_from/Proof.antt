@@ -1,5 +1,5 @@
--- `rows::cell_from` meets its contract: the difference is the remainder by three, by which the number above counts or not. Each sum is a
--- number of ways, which is at most the rest, so nothing wraps.
+-- `rows::cell_from` meets its contract: the difference is the remainder by three, by which the number above counts or not. Each sum
+-- is a number of ways, which is at most the rest, so nothing wraps.
 use mathlib.Core.Path.{_≡_, sym}
 use mathlib.Core.Bool.{true, false}
 use Prim.Native.Nat.{ℕ, _+_, _-_, _*_, _/_, _%_, _^_, _<_}

@@ -1,5 +1,5 @@
--- `rows::clear_dead` meets its contract: from a on the rest is 0, which a dead cell's number is.
-use mathlib.Core.Path.{_≡_, ap, sym, _∙_}
+-- `rows::clear_dead` meets its contract: from `live` on the rest is 0, and a cell of the rest 0 holds 0.
+use mathlib.Core.Path.{_≡_, sym}
 use mathlib.Core.Bool.{Bool, true, false}
 use Prim.Native.Nat.{ℕ, _^_, _/_, _-_, _≤_, _<_}
 use native.Mathlib.Omega.{arith}
@@ -11,8 +11,6 @@ use Rattle.grid.specs.Fill.{no-column, column-free-first}
 use Rattle.counting.specs.Table.{waysIn, countCell, cell-dead}
 use Rattle.counting.proofs.rows.clear_dead.Statement.{statement}
 use Rattle.counting.proofs.rows.clear_dead.Tie as tie
-use Rattle.counting.proofs.rows.clear_dead.Reads as reads
-use Rattle.counting.proofs.rows.clear_dead.Lts as lts
 
 abbrev Inv-loop : tie.InvT-loop
 Inv-loop part₀ m live a₀ part a = (live ≤ a) × (a ≤ 64) × RowFilled countCell 0 m a part₀ part
@@ -20,8 +18,8 @@ Inv-loop part₀ m live a₀ part a = (live ≤ a) × (a ≤ 64) × RowFilled co
 abbrev μ-loop : tie.MeasureT-loop
 μ-loop part₀ m live a₀ part a = a
 
-dead : (m live a : ℕ) (f : Bool) → m < 2 ^ live → live ≤ a → 0 ≡ waysIn f (m / 2 ^ a)
-dead m live a f h k = rw (rest-dead m live a h k) (sym (cell-dead f))
+dead : (m live a : ℕ) → m < 2 ^ live → live ≤ a → (f : Bool) → 0 ≡ waysIn f (m / 2 ^ a)
+dead m live a h k f = rw (rest-dead m live a h k) (sym (cell-dead f))
 
 loop-again : tie.Need-loop-again Inv-loop μ-loop
 loop-again c =
@@ -29,11 +27,11 @@ loop-again c =
     let args = at-loop .before .args in
     let a = at-loop .loop .a in
     let low : args .live ≤ a - 1 = omega arith in
-    let m< : args .m < 2 ^ args .live = at-loop .before .pre .0 in (
+    let zero-for = dead (args .m) (args .live) (a - 1) (at-loop .before .pre .0) low in (
       low,
       omega arith,
-      column-free-first countCell 0 (args .m) (a - 1) a (args .part .now) (at-loop .loop .part) 0 0 (omega arith) (omega arith) (omega arith)
-          (dead (args .m) (args .live) (a - 1) true m< low) (dead (args .m) (args .live) (a - 1) false m< low) (at-loop .loop .inv .2),
+      column-free-first countCell 0 (args .m) (a - 1) a (args .part .now) (at-loop .loop .part) 0 0
+          (omega arith) (omega arith) (omega arith) (zero-for true) (zero-for false) (at-loop .loop .inv .2),
     )
 
 returns : tie.Need-returns Inv-loop μ-loop

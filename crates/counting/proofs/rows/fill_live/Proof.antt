@@ -1,6 +1,6 @@
--- `rows::fill_live` meets its contract. Each turn fills one column more from the one right of it, whose number for the reader after a has
--- risen is carried along, and from the row above, which no turn writes to.
-use mathlib.Core.Path.{_≡_, refl, sym, ap, _∙_}
+-- `rows::fill_live` meets its contract. Each turn fills one column more from the one right of it, whose number for the reader after
+-- a has risen is carried along, and from the row above, which no turn writes to.
+use mathlib.Core.Path.{_≡_, refl, sym, _∙_}
 use mathlib.Core.List.{List}
 use mathlib.Core.Bool.{true, false}
 use Prim.Native.Nat.{ℕ, suc, _+_, _*_, _^_, _/_, _-_, _≤_, _<_}
@@ -14,8 +14,6 @@ use Rattle.grid.specs.Fill.{column, asked-still, read-above}
 use Rattle.counting.specs.Table.{waysIn, countCell, LiveAsked, CellAsked, cell-at-1}
 use Rattle.counting.proofs.rows.fill_live.Statement.{statement}
 use Rattle.counting.proofs.rows.fill_live.Tie as tie
-use Rattle.counting.proofs.rows.fill_live.Reads as reads
-use Rattle.counting.proofs.rows.fill_live.Lts as lts
 
 -- The columns from a on are filled, and `right` is column a's number for the reader after a has risen.
 pub record Filling (m top : ℕ) (entry part : List ℕ) (right a : ℕ) : Type 0 where
@@ -34,7 +32,8 @@ begin p =
     }
 
 -- A turn, at the column left of a.
-module _ {m q top : ℕ} {entry part : List ℕ} {right a : ℕ} (p : LiveAsked m q top entry) (f : Filling m top entry part right a) (h : 0 < a) where
+module _ {m q top : ℕ} {entry part : List ℕ} {right a : ℕ} (p : LiveAsked m q top entry)
+    (f : Filling m top entry part right a) (h : 0 < a) where
   half : m / 2 ^ (a - 1) / 2 ≡ m / 2 ^ a
   half =
       let e : suc (a - 1) ≡ a = omega arith in
@@ -67,13 +66,15 @@ module _ {m q top : ℕ} {entry part : List ℕ} {right a : ℕ} (p : LiveAsked 
   next x y e =
       record {
         filled =
-            column countCell 0 m (a - 1) a entry part x y (omega arith) (omega (arith, p .last, f .last)) (p .asked .room) (e .0) (e .1) (f .filled);
+            column countCell 0 m (a - 1) a entry part x y (omega arith) (omega (arith, p .last, f .last)) (p .asked .room)
+            (e .0) (e .1) (f .filled);
         last = omega (arith, f .last);
         live = omega (arith, two);
         carried = e .1;
       }
 
-end : {m top : ℕ} {entry part : List ℕ} {right a : ℕ} → Filling m top entry part right a → a ≤ 0 → RowFilled countCell 0 m 0 entry part
+end : {m top : ℕ} {entry part : List ℕ} {right a : ℕ} → Filling m top entry part right a → a ≤ 0
+    → RowFilled countCell 0 m 0 entry part
 end {a = a} f h =
     let e : a ≡ 0 = omega arith in
     rw e at (f .filled)

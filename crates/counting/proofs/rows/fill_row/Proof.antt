@@ -1,5 +1,5 @@
--- `rows::fill_row` meets its contract. The dead columns are filled, then the last live one, whose rest is 1, then those below it. A row
--- with the rest 0 is all dead.
+-- `rows::fill_row` meets its contract. The dead columns are filled, then the last live one, whose rest is 1, then those below it. A
+-- row with the rest 0 is all dead.
 use mathlib.Core.Path.{_≡_, sym}
 use mathlib.Core.List.{List}
 use mathlib.Core.Bool.{Bool, true, false}
@@ -31,7 +31,8 @@ module _ {m q live : ℕ} {entry part : List ℕ} (r : RowAsked countCell 0 m q 
   top-filled = column countCell 0 m (live - 1) live entry part 1 1 (omega arith) (l .0) (r .room) (one true) (one false) f
 
   live-asked : LiveAsked m q (live - 1) (set (set part (2 * (live - 1) + 1) 1) (2 * (live - 1)) 1)
-  live-asked = record { asked = asked-still countCell r top-filled; last = omega (arith, l .0); at-top = at-top; filled = top-filled .row }
+  live-asked =
+      record { asked = asked-still countCell r top-filled; last = omega (arith, l .0); at-top = at-top; filled = top-filled .row }
 
 returns : tie.Need-returns
 returns c =
@@ -41,13 +42,15 @@ returns c =
 fill-live-requires : tie.Need-fill-live-requires
 fill-live-requires c κs =
     let cleared = c .before .before .before .before in
-    live-asked (cleared .before .before .before .before .pre) (cleared .clear-dead .ensures) (cleared .before .before .live-columns .ensures) (omega arith)
+    live-asked (cleared .before .before .before .before .pre) (cleared .clear-dead .ensures)
+    (cleared .before .before .live-columns .ensures) (omega arith)
 
 returns-2 : tie.Need-returns-2
 returns-2 c =
     let cleared = c .before .before .before .before .before .before .before in
     filled-on countCell
-    (top-filled (cleared .before .before .before .before .pre) (cleared .clear-dead .ensures) (cleared .before .before .live-columns .ensures) (omega arith))
+    (top-filled (cleared .before .before .before .before .pre) (cleared .clear-dead .ensures)
+    (cleared .before .before .live-columns .ensures) (omega arith))
     (c .before .before .fill-live .ensures)
 
 pub fill-row-spec : {M : Type 1} → statement M
