@@ -96,6 +96,75 @@ def word_of(chain):
             here = (here[0] + 1, here[1])
 
 
+def chain_of(word):
+    """The points that a word marks, largest first."""
+    here, marked = (0, 0), []
+    for letter in word:
+        if letter in "13":
+            marked.append(here)
+        here = (here[0] + 1, here[1]) if letter in "01" else (here[0], here[1] + 1)
+    return marked[::-1]
+
+
+def sum_of(chain):
+    return sum(2**a * 3**b for a, b in chain)
+
+
+def after_a(m):
+    """How many chains of m may follow a rise of a: those with a part that 3 does not divide."""
+    return count(m) - (count(m // 3) if m % 3 == 0 else 0) if m else 0
+
+
+def position_of(word):
+    """The number of chains before it in the list of its number, by counting those that turn off to the lower letter."""
+    m, before = sum_of(chain_of(word)), 0
+    for letter in word[:-1]:
+        if letter in "23":
+            before += after_a(m // 2)
+        m //= 2 if letter in "01" else 3
+    return before
+
+
+def word_at(n, position):
+    """The word at a position below the count."""
+    word, m = "", n
+    while m > 1:
+        lower = after_a(m // 2)
+        if position < lower:
+            word += str(m % 2)
+            m //= 2
+        else:
+            position -= lower
+            word += str(2 + m % 3)
+            m //= 3
+    return word + "3" if n else ""
+
+
+def best(n, parts, most_a, most_b, d, t, s):
+    """The best chain's (parts, price, word), or None: by memory of (point, reader), comparing parts, then price, then the text."""
+    known = {}
+
+    def at(m, a, b, free):
+        if a > most_a or b > most_b:
+            return None
+        if m == 1:
+            return (1, 0, "3")
+        if (a, b, free) not in known:
+            ways = []
+            left = at(m // 2, a + 1, b, False)
+            if left:
+                ways.append((left[0] + m % 2, left[1] + d + s * (m % 2), str(m % 2) + left[2]))
+            if m % 3 == 1 or (m % 3 == 0 and free):
+                left = at(m // 3, a, b + 1, True)
+                if left:
+                    ways.append((left[0] + m % 3, left[1] + t + s * (m % 3), str(2 + m % 3) + left[2]))
+            known[a, b, free] = min(ways) if ways else None
+        return known[a, b, free]
+
+    found = at(n, 0, 0, True) if n else (0, 0, "")
+    return found if found and (n == 0 or found[0] <= parts) else None
+
+
 def good(word):
     """Document 01's sentence, on text."""
     if word == "":
@@ -130,11 +199,103 @@ def check_003():
     assert [counts[n] for n in (0, 1, 3, 5, 6, 9, 19, 21, 27)] == [1, 1, 2, 1, 2, 4, 4, 5, 7]
     assert min(len(c) for _, c in lists[29]) == 3
     assert len(TABLE) == 1344 and [VALUE[p] for p in TABLE[:14]] == [1, 2, 3, 4, 6, 8, 9, 12, 16, 18, 24, 27, 32, 36]
+    assert answer(LISTING) == REPLIES
     assert count((2**36 * 3**19 - 27) // 5) == 16152526311 and count(10**6) == 497 and count(3 * 2**62 - 1) == 1
     for n, entries in enumerate(lists):
         assert count(n) == len(entries)
+        for i, (word, chain) in enumerate(entries):
+            assert word_at(n, i) == word and position_of(word) == i and chain_of(word) == chain
+        for parts, a, b, d, t, s in ((64, 63, 40, 4, 7, 9), (2, 63, 40, 0, 0, 0), (64, 3, 2, 1, 0, 5), (64, 63, 0, 9, 1, 1)):
+            within = [c for _, c in entries if len(c) <= parts and all(x <= a and y <= b for x, y in c)]
+            price = lambda c: d * c[0][0] + t * c[0][1] + s * (len(c) - 1) if c else 0
+            least = min(((len(c), price(c), word_of(c)) for c in within), default=None)
+            assert best(n, parts, a, b, d, t, s) == least
         assert all(good(w) for w, _ in entries) and len({w for w, _ in entries}) == len(entries)
 
+
+# ---- lines and replies
+
+
+def chain_reply(n, chain, price=None):
+    text = f"00{n:016X}{position_of(word_of(chain)):016X}{len(chain):02X}" + "".join(f"{NUMBER[p]:04X}" for p in chain)
+    return text if price is None else text + f"{price:08X}"
+
+
+def reply_to_record(numbers):
+    if len(numbers) > 64 or any(i >= len(TABLE) for i in numbers):
+        return "08"
+    chain = [TABLE[i] for i in numbers]
+    values = [VALUE[p] for p in chain]
+    if any(x <= y or x % y for x, y in zip(values, values[1:])):
+        return "09"
+    return chain_reply(sum(values), chain) if sum(values) < LIMIT else "0A"
+
+
+def reply_to_word(letters, following):
+    word = "".join(map(chr, (48 + l if l < 75 else 123 for l in letters)))
+    if not good(word):
+        return "07"
+    chain = chain_of(word)
+    n = sum_of(chain)
+    if n >= LIMIT:
+        return "0A"
+    if not following:
+        return chain_reply(n, chain)
+    position = position_of(word) + 1
+    return chain_reply(n, chain_of(word_at(n, position))) if position < count(n) else "0B"
+
+
+def reply_to(line):
+    """The reply to one line of a file, given without its byte 10."""
+    if len(line) == 0 or len(line) % 2 or len(line) > 514:
+        return "02"
+    if not re.fullmatch(rb"[0-9A-F]*", line):
+        return "03"
+    data = bytes.fromhex(line.decode())
+    kind, more = data[0], data[1] if len(data) > 1 else 0
+    lengths = {1: 9, 2: 18, 3: 17, 4: 2 + 2 * more, 5: 2 + more, 6: 2 + more}
+    if kind not in lengths:
+        return "04"
+    if len(data) != lengths[kind]:
+        return "02"
+    number = lambda i, k: int.from_bytes(data[i : i + k], "big")
+    if kind == 1:
+        return f"00{count(number(1, 8)):016X}"
+    if kind == 2:
+        found = best(number(1, 8), *data[9:12], number(12, 2), number(14, 2), number(16, 2))
+        return chain_reply(number(1, 8), chain_of(found[2]), found[1]) if found else "05"
+    if kind == 3:
+        n, position = number(1, 8), number(9, 8)
+        return chain_reply(n, chain_of(word_at(n, position))) if position < count(n) else "06"
+    if kind == 4:
+        return reply_to_record([number(2 + 2 * i, 2) for i in range(more)])
+    return reply_to_word(list(data[2:]), kind == 6)
+
+
+def lines_of(file):
+    """The lines of a file: each ends at a byte 10, a last one may lack it."""
+    lines = file.split(b"\n")
+    return lines[:-1] if lines[-1] == b"" else lines
+
+
+def answer(file):
+    return "".join(reply_to(line) + "\n" for line in lines_of(file))
+
+
+LISTING = b"""010000000000000013
+020000000000000013023F28000400070009
+03000000000000001B0000000000000006
+020000000000000005013F28000400070009
+040200090000
+7F
+"""
+REPLIES = """000000000000000004
+000000000000000013000000000000000302000900000000001B
+00000000000000001B000000000000000601000B
+05
+00000000000000001300000000000000030200090000
+04
+"""
 
 WHATS = {}
 

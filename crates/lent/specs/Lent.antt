@@ -1,13 +1,14 @@
 -- What a service leaves in memory that it was lent: document 01, 'Services and memory'. The scratch, the places and the reply all
 -- follow one rule: what the service gives, then zeros up to the size that it asks for, and everything later as it was.
 --
--- In this order: zeros, and the rule; the length is kept; the rule where a part of that size was zeroed; a store from the back.
+-- In this order: zeros, and the rule; the length is kept; the rule where a part of that size was zeroed,
+-- and where what is given was put over the zeros; a store from the back.
 use mathlib.Core.Path.{_≡_, refl, ap}
-use mathlib.Core.List.{List, [], _∷_, _++_}
-use Prim.Native.Nat.{ℕ, zero, suc, _-_, _≤_, _<_}
+use mathlib.Core.List.{List, [], _∷_, _++_, append-assoc}
+use Prim.Native.Nat.{ℕ, zero, suc, _+_, _-_, _≤_, _<_}
 use native.Mathlib.Omega.{arith}
-use lib.ListN.{length, drop, set, replicate, length-append, length-drop, length-replicate}
-use lib.Seq.{length-take-le}
+use lib.ListN.{length, take, drop, set, replicate, length-append, length-drop, length-replicate, replicate-append-replicate}
+use lib.Seq.{length-take-le, take-append-seam, drop-at}
 use borrow.Rule.Slice.PartMut.{midOf, putMid}
 
 -- Never computed at a long length: opened only in laws over a variable.
@@ -35,6 +36,21 @@ unfolding filled
 cleared size entry l ys h e z =
     let k : length (midOf 0 size l) ≡ size - 0 = omega (arith, length-take-le size l h) in
     rw (z, k, e)
+
+-- What is given, over the first of zeroed memory.
+pub over-zeros : (size : ℕ) (xs entry : List ℕ) → length xs ≤ size → xs ++ drop (length xs) (filled size [] entry) ≡ filled size xs entry
+unfolding filled zeros
+over-zeros size xs entry h =
+    let k = length xs in
+    let e : size - 0 ≡ k + (size - k) = omega arith in
+    ap (λ (l : List ℕ). xs ++ l)
+    (rw (e, ← replicate-append-replicate {A = ℕ} k (size - k) 0, append-assoc)
+    (drop-at (replicate k 0) (replicate (size - k) 0 ++ drop size entry) k (length-replicate k 0)))
+
+-- What is given stands first.
+pub filled-first : (size : ℕ) (xs entry : List ℕ) → take (length xs) (filled size xs entry) ≡ xs
+unfolding filled
+filled-first size xs entry = take-append-seam xs _
 
 -- Over zeros, from the back: a store before t, which is what was stored so far and what follows it.
 pub store-back : (j x : ℕ) (t : List ℕ) → 0 < j → set (zeros j ++ t) (j - 1) x ≡ zeros (j - 1) ++ (x ∷ t)

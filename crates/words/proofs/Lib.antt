@@ -1,0 +1,5 @@
+-- What the proofs of several functions use.
+mod Sized
+mod Between
+mod Marked
+mod Marks

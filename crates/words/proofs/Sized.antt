@@ -1,0 +1,60 @@
+-- A number below 2^64, or that it is not: which of the two, and what a word of a known answer stands for.
+use mathlib.Core.Path.{_≡_, refl}
+use mathlib.Core.Bool.{Bool, true, false}
+use mathlib.Core.List.{[], _∷_}
+use Prim.Native.Nat.{ℕ, zero, suc, _^_, _≤_, _<_}
+use native.Mathlib.Nat.{le-refl, le-trans}
+use native.Mathlib.Omega.{arith}
+use lib.Dec.{ltb}
+use lib.ListN.{drop}
+use borrow.Author.Tests.{lt-ltb, le-ltb, ltb-true, ltb-false}
+use Rattle.chains.specs.Words.{Word}
+use Rattle.chains.specs.Weight.{weight}
+use Rattle.words.specs.Answers.{pickWeighed, sized}
+use Rattle.words.specs.declared.Weighed.the-variants.{Number, Over}
+
+pub sized-number : (n : ℕ) → n < 2 ^ 64 → sized n ≡ Number n
+unfolding sized pickWeighed
+sized-number n h = rw (lt-ltb n (2 ^ 64) h)
+
+pub sized-over : (n : ℕ) → 2 ^ 64 ≤ n → sized n ≡ Over
+unfolding sized pickWeighed
+sized-over n h = rw (le-ltb n (2 ^ 64) h)
+
+pub number-is : (n m : ℕ) → Number m ≡ sized n → m ≡ n
+unfolding sized pickWeighed
+number-is n m e = go (ltb n (2 ^ 64)) e
+  where
+    go : (t : Bool) → Number m ≡ pickWeighed t (Number n) Over → m ≡ n
+    go true d = cc
+    go false d = cc
+
+pub number-below : (n m : ℕ) → Number m ≡ sized n → n < 2 ^ 64
+unfolding sized pickWeighed
+number-below n m e = go (ltb n (2 ^ 64)) refl e
+  where
+    go : (t : Bool) → ltb n (2 ^ 64) ≡ t → Number m ≡ pickWeighed t (Number n) Over → n < 2 ^ 64
+    go true d f = ltb-true n (2 ^ 64) d
+    go false d f = let z : _≡_ {A = ℕ} 0 1 = cc in absurd (omega arith)
+
+pub over-is : (n : ℕ) → Over ≡ sized n → 2 ^ 64 ≤ n
+unfolding sized pickWeighed
+over-is n e = go (ltb n (2 ^ 64)) refl e
+  where
+    go : (t : Bool) → ltb n (2 ^ 64) ≡ t → Over ≡ pickWeighed t (Number n) Over → 2 ^ 64 ≤ n
+    go true d f = let z : _≡_ {A = ℕ} 0 1 = cc in absurd (omega arith)
+    go false d f = ltb-false n (2 ^ 64) d
+
+-- A word stands for no less than what is left of it behind its first letters.
+letter-more : (l : ℕ) (w : Word) → weight w ≤ weight (l ∷ w)
+unfolding weight
+letter-more zero w = omega arith
+letter-more (suc zero) w = omega arith
+letter-more (suc (suc zero)) w = omega arith
+letter-more (suc (suc (suc zero))) w = omega arith
+letter-more (suc (suc (suc (suc x)))) w = omega arith
+
+pub drop-less : (i : ℕ) (w : Word) → weight (drop i w) ≤ weight w
+drop-less zero w = le-refl (weight w)
+drop-less (suc i) [] = le-refl (weight [])
+drop-less (suc i) (l ∷ w) = le-trans (drop-less i w) (letter-more l w)

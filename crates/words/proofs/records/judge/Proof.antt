@@ -1,0 +1,76 @@
+-- The three tests in the order of the refusals, each as the function before it answers; the table's sum is the sum of the parts.
+use mathlib.Core.Path.{_≡_, refl, sym, ap, _∙_}
+use mathlib.Core.Bool.{Bool, true, false, _||_}
+use mathlib.Core.List.{List}
+use Prim.Native.Nat.{ℕ}
+use native.Mathlib.Omega.{arith}
+use lib.Dec.{ltb, leb}
+use lib.ListN.{length}
+use borrow.Author.Needs.{needs}
+use borrow.Author.Tests.{not-true, not-false, ltb-true, ltb-false, le-leb, lt-leb}
+use Rattle.chains.specs.Chains.{total}
+use Rattle.parts.specs.Table.{parts}
+use Rattle.parts.specs.Parts.{limit, sumAt, pickSum, sumOf}
+use Rattle.parts.specs.declared.Sum.the-variants.{Fits, Over}
+use Rattle.words.specs.Records.{recordParts, beyond, chainedTest, pickJudged, judgedOf}
+use Rattle.words.specs.RecordLaws.{neither, record-sum}
+use Rattle.words.specs.declared.Judged.the-variants.{Sum, Refused}
+use Rattle.words.proofs.records.judge.Statement.{statement}
+use Rattle.words.proofs.records.judge.Tie as tie
+
+-- o is the answer for the numbers, t for the pairs.
+module _ (l : List ℕ) (o : Bool) (eo : o ≡ (ltb 64 (length l) || beyond l)) where
+  outside : o ≡ true → Refused 8 ≡ judgedOf l
+  unfolding judgedOf pickJudged
+  outside e = rw (← eo, e)
+
+  known : o ≡ false → beyond l ≡ false
+  known e = neither (ltb 64 (length l)) (beyond l) (sym eo ∙ e) .1
+
+  module _ (inside : o ≡ false) (t : Bool) (et : t ≡ chainedTest (recordParts l)) where
+    unchained : t ≡ false → Refused 9 ≡ judgedOf l
+    unfolding judgedOf pickJudged
+    unchained e = rw (← eo, inside, ← et, e)
+
+    -- The sum as the table gives it.
+    module _ (chained : t ≡ true) (table : List ℕ) (is-parts : table ≡ parts) where
+      sum : sumAt table l ≡ total (recordParts l)
+      sum = ap (λ (s : List ℕ). sumAt s l) is-parts ∙ record-sum l (known inside)
+
+      judged : judgedOf l ≡ pickJudged (leb limit (sumAt table l)) (Refused 10) (Sum (sumAt table l))
+      unfolding judgedOf pickJudged
+      judged = rw (← eo, inside, ← et, chained, sum)
+
+      fits : (n : ℕ) → Fits n ≡ sumOf (sumAt table l) → Sum n ≡ judgedOf l
+      unfolding sumOf pickSum pickJudged
+      fits n e = go (ltb (sumAt table l) limit) refl e
+        where
+          go : (b : Bool) → ltb (sumAt table l) limit ≡ b → Fits n ≡ pickSum b (Fits (sumAt table l)) Over → Sum n ≡ judgedOf l
+          go true d f = rw (judged, lt-leb limit (sumAt table l) (ltb-true (sumAt table l) limit d)) cc
+          go false d f = let z : _≡_ {A = ℕ} 0 1 = cc in absurd (omega arith)
+
+      over : Over ≡ sumOf (sumAt table l) → Refused 10 ≡ judgedOf l
+      unfolding sumOf pickSum pickJudged
+      over e = go (ltb (sumAt table l) limit) refl e
+        where
+          go : (b : Bool) → ltb (sumAt table l) limit ≡ b → Over ≡ pickSum b (Fits (sumAt table l)) Over → Refused 10 ≡ judgedOf l
+          go true d f = let z : _≡_ {A = ℕ} 0 1 = cc in absurd (omega arith)
+          go false d f = rw (judged, le-leb limit (sumAt table l) (ltb-false (sumAt table l) limit d))
+
+pub judge-spec : {M : Type 1} → statement M
+judge-spec =
+    tie.close
+    (tie.spec
+    (λ c κs. search needs)
+    (λ c. outside _ _ (c .before .is-outside .ensures) (c .if1 .taken))
+    (λ c κs. (c .before .before .before .before .pre, known _ _ (c .before .is-outside .ensures) (c .if1 .left)))
+    (λ c. unchained _ _ (c .before .before .before .is-outside .ensures) (c .before .before .if1 .left) _ (c .before .is-chained .ensures) (not-true _ (c .if2 .taken)))
+    (λ c κs. search needs)
+    (λ c. search needs)
+    (λ c. search needs)
+    (λ c. let t = c .before .before .before .before .before in
+    fits _ _ (t .before .before .is-outside .ensures) (t .before .if1 .left) _ (t .is-chained .ensures) (not-false _ (c .before .before .before .before .if2 .left)) _ (t .before .before .before .before .before .pre)
+    _ (sym (c .before .n .given .1) ∙ c .before .before .before .sum-of .ensures))
+    (λ c. let t = c .before .before .before .before in
+    over _ _ (t .before .before .is-outside .ensures) (t .before .if1 .left) _ (t .is-chained .ensures) (not-false _ (c .before .before .before .if2 .left)) _ (t .before .before .before .before .before .pre)
+    (sym (c .enum-told .given .1) ∙ c .before .before .sum-of .ensures)))

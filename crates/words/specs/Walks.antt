@@ -1,0 +1,51 @@
+-- What the writer of a word's letters keeps on its way. Only private functions cite these definitions; what
+-- the services answer and leave behind is in Conversions.
+use mathlib.Core.Path.{_≡_}
+use mathlib.Core.Bool.{true, false}
+use mathlib.Core.List.{List, [], _∷_, _++_, map}
+use Prim.Native.Nat.{ℕ, _+_, _*_, _^_, _≤_, _<_}
+use lib.Dec.{T}
+use lib.ListN.{length, take, drop}
+use Rattle.chains.specs.Chains.{Part, value, Chained, total}
+use Rattle.chains.specs.Words.{Word, chainFrom, reads}
+use Rattle.chains.specs.Weight.{weight}
+use Rattle.parts.specs.Table.{parts}
+use Rattle.parts.specs.Parts.{placeOf}
+use Rattle.parts.specs.declared.Exponents.{Exponents}
+use Rattle.words.specs.Records.{recordParts, beyond}
+use Rattle.words.specs.RecordLaws.{Burned}
+
+-- ---- from a record to its word
+
+-- A part by its exponents.
+abbrev pub point : Exponents → Part
+point e = record { a = e .a; b = e .b }
+
+-- The places l with xs in those from i up to but without j.
+unfoldable pub between : ℕ → ℕ → List ℕ → List ℕ → List ℕ
+between i j xs l = take i l ++ (xs ++ drop j l)
+
+-- The letters of a and of b up to a part stand before its own: the letter of a point has the place a + b.
+abbrev pub place : Part → ℕ
+place p = p .a + p .b
+
+-- The letters from q up to p have their places among n.
+pub record OnTheWay (q p : Part) (n : ℕ) : Type 0 where
+  pub across : q .a ≤ p .a
+  pub upward : q .b ≤ p .b
+  pub room : place p ≤ n
+
+-- The way back from the part p through the numbers of a record l from i on: the table is the part table, the numbers are in it, p
+-- and their parts are a chain, and the letters before p have their places among n.
+pub record WayBack (table l : List ℕ) (i : ℕ) (p : Part) (n : ℕ) : Type 0 where
+  pub is-parts : table ≡ parts
+  pub known : beyond l ≡ false
+  pub chained : Chained (p ∷ recordParts (drop i l))
+  pub room : place p ≤ n
+
+-- A record whose word can be written into n places: the table is the part table, the record names a chain of a number below 2^64,
+-- and there are 64 places or more.
+pub record Writable (table l : List ℕ) (n : ℕ) : Type 0 where
+  pub is-parts : table ≡ parts
+  pub burned : Burned l (total (recordParts l))
+  pub room : 64 ≤ n

@@ -1,0 +1,133 @@
+-- Records, chains and words lead to each other and back, for 003's chains and for the services' own answers.
+-- In order: a chain of n below 2^64, its record and its word; a record that gets its sum, written as a word and read back; a good word
+-- below 2^64, taken apart and written again. The answers are defined in Records and Conversions.
+use mathlib.Core.Path.{_≡_, refl, ap, ap₂, _∙_}
+use mathlib.Core.Bool.{true, false}
+use mathlib.Core.List.{List, [], _∷_, map}
+use Prim.Native.Nat.{ℕ, _^_, _≤_, _<_}
+use native.Mathlib.Omega.{arith}
+use lib.Dec.{T}
+use lib.Ieee.Bits.{is-true}
+use lib.ListN.{length, length-map}
+use borrow.Author.Tests.{lt-ltb, le-ltb, lt-leb}
+use Rattle.chains.specs.Chains.{Part, value, total, ChainOf}
+use Rattle.chains.specs.Words.{Word, wordOf, chainOf, reads}
+use Rattle.chains.specs.Weight.{weight, total-chainOf}
+use Rattle.chains.specs.RoundTrip.{chain-word-chain, word-reads, word-chained, word-chain-word}
+use Rattle.chains.specs.Bounds.{parts-bound, weight-wordOf}
+use Rattle.parts.specs.Parts.{limit, partAt, placeOf}
+use Rattle.parts.specs.Numbers.{parts-complete, part-place, place-part}
+use Rattle.lent.specs.Lent.{filled}
+use Rattle.words.specs.Records.{recordParts, beyond, judgedOf}
+use Rattle.words.specs.RecordLaws.{in-table, known-cons, judged-sum}
+use Rattle.words.specs.Conversions.{lettersOf, writtenOf, lettersLeft, partedOf, numbersLeft}
+use Rattle.words.specs.declared.Judged.the-variants as judged
+use Rattle.words.specs.declared.Written.the-variants as written
+use Rattle.words.specs.declared.Parted.the-variants as parted
+
+-- ---- parts and numbers, for a whole chain and a whole record
+
+module _ (p : Part) (c : List Part) (h : total (p ∷ c) < limit) where
+  both-below : (value p < limit) × (total c < limit)
+  unfolding total
+  both-below = (omega arith, omega arith)
+
+-- Parts whose sum is below 2^64 have numbers in the table, and are the parts of their numbers.
+places-known : (c : List Part) → total c < limit → beyond (map placeOf c) ≡ false
+unfolding beyond
+places-known [] h = refl
+places-known (p ∷ c) h =
+    let (first, rest) = both-below p c h in
+    rw (lt-leb 1344 (placeOf p) (parts-complete p first .0), places-known c rest)
+
+parts-of-places : (c : List Part) → total c < limit → recordParts (map placeOf c) ≡ c
+unfolding recordParts
+parts-of-places [] h = refl
+parts-of-places (p ∷ c) h =
+    let (first, rest) = both-below p c h in
+    ap₂ (λ q d. q ∷ d) (part-place p first) (parts-of-places c rest)
+
+record-length : (l : List ℕ) → length (recordParts l) ≡ length l
+unfolding recordParts
+record-length l = length-map l partAt
+
+-- The numbers of a record are the places of their parts.
+places-of-parts : (l : List ℕ) → beyond l ≡ false → map placeOf (recordParts l) ≡ l
+unfolding recordParts
+places-of-parts [] e = refl
+places-of-parts (i ∷ l) e =
+    let (first, rest) = known-cons i l e in
+    ap₂ (λ x y. x ∷ y) (place-part i first) (places-of-parts l rest)
+
+-- ---- the answers where nothing is refused
+
+module _ (entry : List ℕ) (room : 64 ≤ length entry) where
+  -- A record that gets its sum is written as the word of its parts.
+  record-written : (l : List ℕ) (n : ℕ) → judgedOf l ≡ judged.Sum n
+      → (writtenOf l (length entry) ≡ written.Letters (length (wordOf (recordParts l))))
+      × (lettersLeft l entry (writtenOf l (length entry)) ≡ filled 64 (wordOf (recordParts l)) entry)
+  unfolding writtenOf lettersOf lettersLeft
+  record-written l n e =
+      let told : writtenOf l (length entry) ≡ written.Letters (length (wordOf (recordParts l))) = rw (writtenOf, le-ltb (length entry) 64 room, e) refl in
+      (told, ap (λ x. lettersLeft l entry x) told)
+
+  -- A good word below 2^64 is taken apart into the numbers of its chain.
+  word-parted : (w : Word) → T (reads true w) → weight w < 2 ^ 64
+      → (partedOf w (length entry) ≡ parted.Chain (weight w) (length (chainOf w)))
+      × (numbersLeft w entry (partedOf w (length entry)) ≡ filled 64 (map placeOf (chainOf w)) entry)
+  unfolding partedOf numbersLeft
+  word-parted w g h =
+      let told : partedOf w (length entry) ≡ parted.Chain (weight w) (length (chainOf w)) =
+      rw (partedOf, le-ltb (length entry) 64 room, is-true (reads true w) g, lt-ltb (weight w) (2 ^ 64) h) refl in
+      (told, ap (λ x. numbersLeft w entry x) told)
+
+-- ---- a chain of n, a number below 2^64
+
+module _ (n : ℕ) (c : List Part) (chain : ChainOf n c) (fits : n < 2 ^ 64) where
+  summed : total c < limit
+  summed = omega (arith, chain .sums)
+
+  -- Its record gets its sum.
+  pub chain-judged : judgedOf (map placeOf c) ≡ judged.Sum n
+  chain-judged =
+      judged-sum (map placeOf c) n .1
+      (record {
+        few = omega (arith, length-map c placeOf, parts-bound n 64 c chain fits);
+        known = in-table (map placeOf c) .0 (places-known c summed);
+        chain = rw (parts-of-places c summed) chain;
+        fits = fits;
+      })
+
+  module _ (entry : List ℕ) (room : 64 ≤ length entry) where
+    -- Its record is written as its word.
+    pub chain-written :
+        (writtenOf (map placeOf c) (length entry) ≡ written.Letters (length (wordOf c)))
+        × (lettersLeft (map placeOf c) entry (writtenOf (map placeOf c) (length entry)) ≡ filled 64 (wordOf c) entry)
+    chain-written = rw (parts-of-places c summed) at (record-written entry room (map placeOf c) n chain-judged)
+
+    -- Its word is taken apart into its record.
+    pub chain-parted :
+        (partedOf (wordOf c) (length entry) ≡ parted.Chain n (length c))
+        × (numbersLeft (wordOf c) entry (partedOf (wordOf c) (length entry)) ≡ filled 64 (map placeOf c) entry)
+    chain-parted =
+        let e : weight (wordOf c) ≡ n = weight-wordOf c (chain .chained) ∙ chain .sums in
+        rw (chain-word-chain c (chain .chained), e) at (word-parted entry room (wordOf c) (word-reads c) (rw e fits))
+
+-- ---- there and back
+
+-- A record that gets its sum comes back from its word.
+pub record-word-record : (l : List ℕ) (n : ℕ) → judgedOf l ≡ judged.Sum n → (entry : List ℕ) → 64 ≤ length entry
+    → (partedOf (wordOf (recordParts l)) (length entry) ≡ parted.Chain n (length l))
+    × (numbersLeft (wordOf (recordParts l)) entry (partedOf (wordOf (recordParts l)) (length entry)) ≡ filled 64 l entry)
+record-word-record l n e entry room =
+    let b = judged-sum l n .0 e in
+    let many : length (recordParts l) ≡ length l = record-length l in
+    rw (many, places-of-parts l (in-table l .1 (b .known))) at (chain-parted n (recordParts l) (b .chain) (b .fits) entry room)
+
+-- A good word below 2^64 comes back from its parts.
+pub word-record-word : (w : Word) → T (reads true w) → weight w < 2 ^ 64 → (entry : List ℕ) → 64 ≤ length entry
+    → (writtenOf (map placeOf (chainOf w)) (length entry) ≡ written.Letters (length w))
+    × (lettersLeft (map placeOf (chainOf w)) entry (writtenOf (map placeOf (chainOf w)) (length entry)) ≡ filled 64 w entry)
+word-record-word w g h entry room =
+    rw (word-chain-word w g) at
+    (chain-written (weight w) (chainOf w) (record { chained = word-chained w; sums = total-chainOf w }) h entry room)
