@@ -7,6 +7,7 @@ values; a word is the walk itself, point by point; the dictionary order is that 
     independent.py WHAT        writes what the test program of that name must print (or, for WHAT-stdin, what it must be given)
     independent.py             lists the WHATs
 """
+import itertools
 import re
 import sys
 
@@ -330,6 +331,82 @@ def test_chains():
         for word, _ in entries:
             yield f"{n} {word} " + ("<" if before < word else "=" if before == word else ">")
             before = word
+
+
+# ---- the services on words, with the places that they are lent, which hold 170 at entry
+
+
+def spaced(values):
+    return "".join(f" {v}" for v in values)
+
+
+def text_of(letters):
+    """A word as text; a letter that is no digit stands for a byte above 9."""
+    return "".join(str(l) if l < 10 else "x" for l in letters)
+
+
+def lent_places(given, size):
+    """What is given, zeros up to 64, the rest as it was; untouched where nothing is given."""
+    return spaced([170] * size if given is None else (given + [0] * 64)[:64] + [170] * (size - 64))
+
+
+def told_of_word(letters, size):
+    word = text_of(letters)
+    chain = chain_of(word)
+    refusal = 1 if size < 64 else 7 if not good(word) else 10 if sum_of(chain) >= LIMIT else None
+    if refusal:
+        return f" refused {refusal} :" + lent_places(None, size)
+    return f" {sum_of(chain)} {len(chain)} :" + lent_places([NUMBER[p] for p in chain], size)
+
+
+def told_of_record(numbers, size):
+    """The sum, and what writing the word answers and leaves."""
+    refusal = {"08": 8, "09": 9, "0A": 10}.get(reply_to_record(numbers))
+    first = 1 if size < 64 else refusal
+    if first:
+        return f" refused {first} :" + lent_places(None, size)
+    word = word_of([TABLE[i] for i in numbers])
+    return f" {len(word)} :" + lent_places([int(l) for l in word], size)
+
+
+def judged(numbers):
+    refusal = {"08": 8, "09": 9, "0A": 10}.get(reply_to_record(numbers))
+    return f" refused {refusal}" if refusal else f" {sum(VALUE[TABLE[i]] for i in numbers)}"
+
+
+def number_or_past(a, b):
+    return NUMBER.get((a, b), len(TABLE))
+
+
+@what
+def test_words():
+    words = [w for k in range(6) for w in itertools.product(range(5), repeat=k)]
+    for letters in words:
+        word = text_of(letters)
+        if good(word):
+            chain = chain_of(word)
+            assert word_of(chain) == word
+            yield f"{spaced(letters)} : {sum_of(chain)} {len(chain)} :{spaced(NUMBER[p] for p in chain)} :{spaced(word)}"
+    short = [text_of(w) for w in words if len(w) <= 3 and good(text_of(w))]
+    for u in short:
+        yield spaced("<" if u < v else "=" if u == v else ">" for v in short)
+    runs = "0,63 0,64 1,63 1,64 2,40 2,41 3,40 3,41 0,254 1,254 2,254 3,254 4,2 255,2"
+    edges = [[int(l)] * int(k) + [3] for l, k in (run.split(",") for run in runs.split())]
+    letters = [3, 0, 3, 4, 3, 2, 0, 2, 3, 255]
+    cuts = "0,0 0,1 0,2 0,3 2,5 4,6 5,9 7,9 8,10"
+    edges += [letters[int(i) : int(j)] for i, j in (cut.split(",") for cut in cuts.split())]
+    for word in edges:
+        total = sum_of(chain_of("".join(l for l in text_of(word) if l in "0123")))
+        weight = total if total < LIMIT else "over"
+        yield ("good" if good(text_of(word)) else "bad") + f" {weight}" + told_of_word(word, 66) + told_of_word(word, 63)
+    yield " 7 7 7"
+    powers = [NUMBER[63 - i, 0] for i in range(64)] + [0]
+    records = [powers[0:0], powers[63:64], powers[:64], powers]
+    pairs = "64,0,0,0 0,0,64,0 1,2,0,0 0,0,1,0 3,1,3,1 1,1,2,0 0,40,0,0 62,1,61,0 62,1,62,0 62,1,61,1 63,0,62,1"
+    for a, b, c, d in (map(int, pair.split(",")) for pair in pairs.split()):
+        records.append([number_or_past(a, b), number_or_past(c, d)])
+    for numbers in records:
+        yield judged(numbers) + told_of_record(numbers, 66) + told_of_record(numbers, 63)
 
 
 SPECIAL = [65535, 65536, 10**6, 2**32 - 1, 2**32, 10**18, 3**19 - 1, 3**19, 3**19 + 1, 2**30 * 3**19, 2**62 - 1, 2**62]

@@ -40,7 +40,7 @@ places-known (p ∷ c) h =
     let (first, rest) = both-below p c h in
     rw (lt-leb 1344 (placeOf p) (parts-complete p first .0), places-known c rest)
 
-parts-of-places : (c : List Part) → total c < limit → recordParts (map placeOf c) ≡ c
+pub parts-of-places : (c : List Part) → total c < limit → recordParts (map placeOf c) ≡ c
 unfolding recordParts
 parts-of-places [] h = refl
 parts-of-places (p ∷ c) h =
@@ -52,7 +52,7 @@ unfolding recordParts
 record-length l = length-map l partAt
 
 -- The numbers of a record are the places of their parts.
-places-of-parts : (l : List ℕ) → beyond l ≡ false → map placeOf (recordParts l) ≡ l
+pub places-of-parts : (l : List ℕ) → beyond l ≡ false → map placeOf (recordParts l) ≡ l
 unfolding recordParts
 places-of-parts [] e = refl
 places-of-parts (i ∷ l) e =

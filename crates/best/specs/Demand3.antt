@@ -1,0 +1,138 @@
+-- Demand 3: what the best chain answers is a chain of n within the limits, and every other such chain has more parts, or as many and a
+-- higher price, or the same and a later position; it refuses with 5 exactly where no chain of n is within the limits.
+--
+-- In this order: the outcome (`given-is-best`, `refused-none`), and the answer that a caller sees (`demand-3`), where enough is lent; the
+-- number 0; limits above 64, 63 and 40.
+use mathlib.Core.Path.{_≡_, refl, sym, ap, _∙_}
+use mathlib.Core.Logic.{_↔_, _≢_}
+use mathlib.Core.List.{List, [], _∷_, List·Memᴰ·head}
+use mathlib.Core.Option.{Option, none, some}
+use Prim.Native.Nat.{ℕ, suc, _*_, _^_, _≤_, _<_, min}
+use native.Mathlib.Nat.{le-mul-of-pos-right, le-trans, lt-of-not-le, mul-comm, one-le-pow, pow-le-pow-right}
+use native.Mathlib.Omega.{arith}
+use lib.ListN.{length}
+use lib.Pow.{pow-mono, pow-pos}
+use Rattle.chains.specs.Chains.{Part, value, ChainOf}
+use Rattle.chains.specs.Listing.{position}
+use Rattle.chains.specs.Best.{Prices, price, Limits, Within, IsBest}
+use Rattle.chains.specs.Bounds.{part-at-most, parts-bound}
+use Rattle.chains.specs.BestOfAll.{bestOf, price-fits, best-of-zero, best-unique, none-fits, best-is-best}
+use Rattle.ranking.specs.Services.{Outcome, refused, gives, lent}
+use Rattle.best.specs.declared.Chosen.{Chosen}
+use Rattle.best.specs.declared.Chosen.the-variants.{Chain, Refused}
+use Rattle.best.specs.Chosen.{orNone, bestOutcome, chosenOf}
+use Rattle.best.specs.KeyTable.{Cheap}
+use Rattle.best.specs.Placing.{Enough, lent-all}
+
+-- No chain of n is within the limits.
+abbrev pub NoneFits : ℕ → Limits → Type 0
+NoneFits n lim = (c : List Part) → ChainOf n c → Within lim c → ⊥
+
+-- The best chain, whose position, number of parts and price are told.
+pub record BestTold (n : ℕ) (lim : Limits) (π : Prices) (i k p : ℕ) : Type 0 where
+  pub chain : List Part
+  pub best : IsBest n lim π chain
+  pub place : i ≡ position n chain
+  pub parts : k ≡ length chain
+  pub cost : p ≡ price π chain
+
+-- What demand 3 asks of an answer.
+abbrev pub Meets : ℕ → Limits → Prices → Chosen → Type 0
+Meets n lim π (Chain i k p) = BestTold n lim π i k p
+Meets n lim π (Refused r) = (r ≡ 5) × NoneFits n lim
+
+-- ---- a number of 64 bits, prices of 16
+
+module _ {n : ℕ} (lim : Limits) {π : Prices} (fits : n < 2 ^ 64) (cheap : Cheap π) where
+  -- No price reaches 2^32.
+  low : (c : List Part) → ChainOf n c → price π c < 2 ^ 32
+  low = price-fits n π fits (cheap .d) (cheap .t) (cheap .s)
+
+  -- The outcome is one of two.
+  data Told : Outcome → Type 0 where
+    fitting : (c : List Part) → IsBest n lim π c → Told (gives n c)
+    nothing : NoneFits n lim → Told (refused 5)
+
+  told : Told (bestOutcome n lim π)
+  unfolding bestOutcome orNone
+  told = go (bestOf (2 ^ 32) n lim π) refl
+    where
+      go : (o : Option (List Part)) → bestOf (2 ^ 32) n lim π ≡ o → Told (orNone n o)
+      go none e = nothing (none-fits (2 ^ 32) n lim π low e)
+      go (some c) e = fitting c (best-is-best (2 ^ 32) n lim π low c e)
+
+  -- It gives the best chain of n within the limits, and no other;
+  pub given-is-best : (c : List Part) → (bestOutcome n lim π ≡ gives n c) ↔ IsBest n lim π c
+  given-is-best c = (is-best (bestOutcome n lim π) told, is-given (bestOutcome n lim π) told)
+    where
+      is-best : (o : Outcome) → Told o → o ≡ gives n c → IsBest n lim π c
+      is-best o (fitting c′ b) e = let same : c′ ≡ c = cc in rw same at b
+      is-best o (nothing f) e = let z : _≡_ {A = ℕ} 0 1 = cc in absurd (omega arith)
+
+      is-given : (o : Outcome) → Told o → IsBest n lim π c → o ≡ gives n c
+      is-given o (fitting c′ b′) b = ap (gives n) (best-unique n lim π c′ c b′ b)
+      is-given o (nothing f) b = absurd (f c (b .chain) (b .within))
+
+  -- it refuses with 5 exactly where there is none.
+  pub refused-none : (bestOutcome n lim π ≡ refused 5) ↔ NoneFits n lim
+  refused-none = (is-none (bestOutcome n lim π) told, is-refused (bestOutcome n lim π) told)
+    where
+      is-none : (o : Outcome) → Told o → o ≡ refused 5 → NoneFits n lim
+      is-none o (fitting c b) e = let z : _≡_ {A = ℕ} 0 1 = cc in absurd (omega arith)
+      is-none o (nothing f) e = f
+
+      is-refused : (o : Outcome) → Told o → NoneFits n lim → o ≡ refused 5
+      is-refused o (fitting c b) f = absurd (f c (b .chain) (b .within))
+      is-refused o (nothing f) g = refl
+
+  -- The answer.
+  pub demand-3 : {s p : List ℕ} → Enough s p → Meets n lim π (chosenOf π (lent s p (bestOutcome n lim π)))
+  unfolding chosenOf
+  demand-3 {s} {p} h = rw (lent-all s p (bestOutcome n lim π) h) (go (bestOutcome n lim π) told)
+    where
+      go : (o : Outcome) → Told o → Meets n lim π (chosenOf π o)
+      go o (fitting c b) = record { chain = c; best = b; place = refl; parts = refl; cost = refl }
+      go o (nothing f) = (refl, f)
+
+-- ---- the number 0
+
+-- The empty chain, whatever the limits and the prices.
+pub zero-given : (lim : Limits) (π : Prices) → bestOutcome 0 lim π ≡ gives 0 []
+unfolding bestOutcome orNone
+zero-given lim π = rw (best-of-zero (2 ^ 32) lim π)
+
+-- ---- limits above 64, 63 and 40 exclude nothing
+
+module _ {n : ℕ} (fits : n < 2 ^ 64) where
+  pub chain-low : (p : Part) (c : List Part) → ChainOf n (p ∷ c) → (length (p ∷ c) ≤ 64) × (p .a ≤ 63) × (p .b ≤ 40)
+  unfolding value
+  chain-low p c h =
+      let v = part-at-most n (p ∷ c) p h (List·Memᴰ·head refl) in
+      let two = le-trans (le-mul-of-pos-right (2 ^ p .a) (one-le-pow (p .b) 3 (omega arith))) v in
+      let three = le-trans (le-mul-of-pos-right (3 ^ p .b) (pow-pos (p .a))) (rw mul-comm at v) in
+      let a : p .a < 64 = lt-of-not-le (λ g. omega (arith, pow-mono g)) in
+      let b : p .b < 41 = lt-of-not-le (λ g. omega (arith, pow-le-pow-right {n = 3} (omega arith) g)) in
+      (parts-bound n 64 (p ∷ c) h fits, omega arith, omega arith)
+
+  -- The same chains are within the limits cut down to those.
+  abbrev cut : Limits → Limits
+  cut lim = record { K = min (lim .K) 64; A = min (lim .A) 63; B = min (lim .B) 40 }
+
+  within-cut : (lim : Limits) (c : List Part) → ChainOf n c → Within lim c ↔ Within (cut lim) c
+  unfolding Within
+  within-cut lim [] h = (λ _. tt, λ _. tt)
+  within-cut lim (p ∷ c) h =
+      let l = chain-low p c h in
+      (λ w. (omega arith, omega arith, omega arith), λ w. (omega arith, omega arith, omega arith))
+
+  pub limits-cut : (lim : Limits) {π : Prices} → Cheap π
+      → bestOutcome n lim π ≡ bestOutcome n (record { K = min (lim .K) 64; A = min (lim .A) 63; B = min (lim .B) 40 }) π
+  limits-cut lim {π} cheap = go (bestOutcome n lim π) (told lim fits cheap)
+    where
+      go : (o : Outcome) → Told lim fits cheap o → o ≡ bestOutcome n (cut lim) π
+      go o (fitting c b) = sym (given-is-best (cut lim) fits cheap c .1 (record {
+        chain = b .chain;
+        within = within-cut lim c (b .chain) .0 (b .within);
+        best = λ c′ h w d. b .best c′ h (within-cut lim c′ h .1 w) d;
+      }))
+      go o (nothing f) = sym (refused-none (cut lim) fits cheap .1 (λ c h w. f c h (within-cut lim c h .1 w)))

@@ -1,0 +1,273 @@
+-- How the key table is filled: what the calls that fill it ask and leave, and the laws by which they do.
+--
+-- In this order: a run of cells with no word; the columns of a row below one that is filled; the end of a row, within the limit on
+-- doublings or behind it; the rows. The laws over any meaning are in grid, Fill.
+use mathlib.Core.Path.{_≡_, refl, sym, ap, _∙_}
+use mathlib.Core.Logic.{_⊎_, inl, inr, ⊎-elim}
+use mathlib.Core.Bool.{Bool, true, false}
+use mathlib.Core.List.{List}
+use Prim.Native.Nat.{ℕ, suc, _+_, _-_, _*_, _/_, _^_, _≤_, _<_, min}
+use native.Mathlib.Nat.{
+  eq-or-lt-of-le,
+  le-div-iff-mul-le,
+  lt-of-not-le,
+  mul-le-mul,
+  pow-le-pow-right,
+  pow-suc,
+  zero-div,
+}
+use native.Mathlib.Numerals.{add-one}
+use native.Mathlib.Omega.{arith}
+use lib.Count.{leadingZeros, leading-top}
+use lib.ListN.{length, getD, set, drop, length-set}
+use lib.Pow.{pow-mono, pow-pos, shr-le}
+use lib.Seq.{getD-set-same, getD-set-other, drop-set-lt, drop-drop, getD-drop}
+use borrow.Rule.Slice.PartMut.{midOf, putMid}
+use Rattle.grid.specs.Grid.{Meaning, RowFrom, RowAsked, RowFilled, RowsAsked, RowsFilled}
+use Rattle.grid.specs.Rests.{half-of-rest, third-of-rest, rest-dead, rest-at-top}
+use Rattle.grid.specs.Fill.{rows-above, column, asked-still, read-above, row-lent, row-more}
+use Rattle.best.specs.KeyTable.{
+  partWeight,
+  noKey,
+  Low,
+  keyCell,
+  Dead,
+  cell-at-most,
+  cell-dead,
+  cell-at-1,
+  uncut,
+  CellAsked,
+  CellBy,
+  uncut-low,
+  cell-step,
+}
+
+-- ---- a run with no word
+
+-- No word from `from` up to but without `end`, and what stands behind as it was.
+pub record NoKeys (from end : ℕ) (entry l : List ℕ) : Type 0 where
+  pub keys : (i : ℕ) → from ≤ i → i < end → getD l i 0 ≡ noKey
+  pub same : length l ≡ length entry
+  pub later : drop end l ≡ drop end entry
+
+pub none-yet : (from : ℕ) (l : List ℕ) → NoKeys from from l l
+none-yet from l = record { keys = λ i h k. absurd (omega arith); same = refl; later = refl }
+
+pub none-more : {from i : ℕ} {entry l : List ℕ} → NoKeys from i entry l → from ≤ i → i < length l → NoKeys from (i + 1) entry (set l i noKey)
+none-more {from} {i} {entry} {l} n h k =
+    record {
+      keys = λ j p q.
+          ⊎-elim (λ (e : j ≡ i). rw e (getD-set-same l i noKey 0 k))
+          (λ (s : j < i). getD-set-other l i j noKey 0 (omega arith) ∙ n .keys j p s)
+          (eq-or-lt-of-le (let l : j ≤ i = omega arith in l));
+      same = length-set l i noKey ∙ n .same;
+      later = drop-set-lt (i + 1) l i noKey (omega arith) ∙ sym (drop-drop 1 i l) ∙ ap (drop 1) (n .later) ∙ drop-drop 1 i entry;
+    }
+
+-- ---- the columns below one that is filled
+
+-- What filling the columns below `start` asks: those from `start` on are filled, `right` is the second number of column `start`, and the
+-- rest there is at least 1.
+pub record BelowAsked (costs : List ℕ) (A B b m q start right : ℕ) (part : List ℕ) : Type 0 where
+  pub asked : RowAsked (keyCell costs A B) b m q part
+  pub low : Low costs
+  pub last : start < 64
+  pub left : 2 ^ start ≤ m
+  pub filled : RowFrom (keyCell costs A B) b m start part
+  pub first : right ≡ keyCell costs A B start b false (m / 2 ^ start)
+
+-- The columns from k on are filled, and `after`, once cut, is the second number of column k.
+pub record Below (costs : List ℕ) (A B b m start : ℕ) (entry part : List ℕ) (k after : ℕ) : Type 0 where
+  pub filled : RowFilled (keyCell costs A B) b m k entry part
+  pub number : min noKey after ≡ keyCell costs A B k b false (m / 2 ^ k)
+  pub low : after ≤ 2 * noKey
+  pub within : k ≤ start
+
+module _ {costs : List ℕ} {A B b m q start right : ℕ} {entry : List ℕ} (asked : BelowAsked costs A B b m q start right entry) where
+  abbrev G : Meaning
+  G = keyCell costs A B
+
+  pub below-none : Below costs A B b m start entry entry start right
+  below-none =
+      let most = cell-at-most costs A B start b false (m / 2 ^ start) in
+      record {
+        filled = record { row = asked .filled; same = refl; later = refl };
+        number = omega (arith, asked .first);
+        low = omega (arith, asked .first);
+        within = omega arith;
+      }
+
+  -- Column j is next.
+  module _ {part : List ℕ} {k after : ℕ} (s : Below costs A B b m start entry part k after) (j : ℕ) (e : k ≡ suc j) where
+    two-left : 2 ≤ m / 2 ^ j
+    two-left =
+        let p : 2 ^ suc j ≤ 2 ^ start = pow-mono (omega (arith, s .within)) in
+        le-div-iff-mul-le (pow-pos j) .1 (omega (arith, asked .left, pow-suc 2 j))
+
+    two : 2 ≤ m
+    two = omega (arith, two-left, shr-le m j)
+
+    pub below-room : 256 ≤ length part
+    below-room = omega (arith, s .filled .same, asked .asked .room-above two)
+
+    third-is : getD part (128 + 2 * j) 0 ≡ G j (suc b) true (m / 2 ^ j / 3)
+    third-is =
+        read-above G j (asked-still G (asked .asked) (s .filled)) two (omega (arith, s .within, asked .last))
+        ∙ rw (asked .asked .third, third-of-rest)
+
+    above-low : getD part (128 + 2 * j) 0 ≤ noKey
+    above-low = omega (arith, third-is, cell-at-most costs A B j (suc b) true (m / 2 ^ j / 3))
+
+    pub below-asked : CellAsked costs (m / 2 ^ j) (q / 2 ^ j) after (getD part (128 + 2 * j) 0)
+    below-asked = record { third = rw (asked .asked .third, third-of-rest); right = s .low; above = above-low; low = asked .low }
+
+    cell-is : (f : Bool) → min noKey (uncut costs f (m / 2 ^ j) after (getD part (128 + 2 * j) 0)) ≡ G j b f (m / 2 ^ j)
+    cell-is f =
+        rw third-is (sym (cell-step costs A B j b f (m / 2 ^ j) after (asked .low) two-left (s .number ∙ rw (e, half-of-rest))))
+
+    -- The numbers x and y of column j, cut to x′ and y′, are stored.
+    pub below-more : {x y x′ y′ : ℕ} → CellBy costs (m / 2 ^ j) after (getD part (128 + 2 * j) 0) x y → x′ ≡ min noKey x → y′ ≡ min noKey y
+        → Below costs A B b m start entry (set (set part (2 * j + 1) y′) (2 * j) x′) j y
+    below-more {x′ = x′} {y′ = y′} c ex ey =
+        record {
+          filled =
+              column G b m j k entry part x′ y′ e (omega (arith, s .within, asked .last)) (asked .asked .room)
+              (ex ∙ rw (c .free) (cell-is true))
+              (ey ∙ rw (c .after) (cell-is false))
+              (s .filled);
+          number = rw (c .after) (cell-is false);
+          low = rw (c .after) (uncut-low costs false (m / 2 ^ j) after _ above-low (asked .low));
+          within = omega (arith, s .within);
+        }
+
+-- ---- the end of a row
+
+-- What the row step asks: a row within the limit on triplings, where something is left.
+pub record RowOfKeys (costs : List ℕ) (A B b m q : ℕ) (part : List ℕ) : Type 0 where
+  pub asked : RowAsked (keyCell costs A B) b m q part
+  pub low : Low costs
+  pub some : 1 ≤ m
+  pub within : b ≤ B
+
+module _ {costs : List ℕ} {A B b m q : ℕ} {entry : List ℕ} (asked : RowOfKeys costs A B b m q entry) where
+  abbrev G′ : Meaning
+  G′ = keyCell costs A B
+
+  -- The columns from k on have no word.
+  dead-columns : (from k : ℕ) (l : List ℕ) → from ≤ 2 * k → NoKeys from 128 entry l → ((i : ℕ) → k ≤ i → Dead A B i b (m / 2 ^ i))
+      → RowFilled G′ b m k entry l
+  dead-columns from k l f n d =
+      record {
+        row = record {
+          free = λ i h u. n .keys (2 * i) (omega arith) (omega arith) ∙ sym (cell-dead costs A B i b true (m / 2 ^ i) (d i h));
+          after-a = λ i h u. n .keys (2 * i + 1) (omega arith) (omega arith) ∙ sym (cell-dead costs A B i b false (m / 2 ^ i) (d i h));
+        };
+        same = n .same;
+        later = n .later;
+      }
+
+  -- What the columns below `start` ask, where those from there on are filled.
+  below-from : {start right : ℕ} {l : List ℕ} → RowFilled G′ b m start entry l → start < 64 → 2 ^ start ≤ m
+      → right ≡ G′ start b false (m / 2 ^ start) → BelowAsked costs A B b m q start right l
+  below-from f h left first =
+      record { asked = asked-still G′ (asked .asked) f; low = asked .low; last = h; left = left; filled = f .row; first = first }
+
+  -- The row ends within the limit, at the column `top`.
+  module _
+      (top : ℕ)
+      {l : List ℕ}
+      (lo : 2 ^ top ≤ m)
+      (hi : m < 2 ^ suc top)
+      (h : top < 64)
+      (a : top ≤ A)
+      (n : NoKeys (2 * top + 2) 128 entry l) where
+    one : (f : Bool) → partWeight ≡ G′ top b f (m / 2 ^ top)
+    one f = rw (rest-at-top m top lo hi) (sym (cell-at-1 costs A B top b f a (asked .within)))
+
+    pub end-within : RowFilled G′ b m top entry (set (set l (2 * top + 1) partWeight) (2 * top) partWeight)
+    end-within =
+        column G′ b m top (suc top) entry l partWeight partWeight refl h (asked .asked .room) (one true) (one false)
+        (dead-columns (2 * top + 2) (suc top) l (omega arith) n (λ i g. inl (rest-dead m (suc top) i hi g)))
+
+    pub within-asked : BelowAsked costs A B b m q top partWeight (set (set l (2 * top + 1) partWeight) (2 * top) partWeight)
+    within-asked = below-from end-within h lo (one false)
+
+  -- It ends behind the limit: `start` is the first column outside.
+  module _
+      (top start : ℕ)
+      {l : List ℕ}
+      (lo : 2 ^ top ≤ m)
+      (h : top < 64)
+      (e : start ≡ A + 1)
+      (a : start ≤ top)
+      (n : NoKeys (2 * start) 128 entry l) where
+    pub end-beyond : RowFilled G′ b m start entry l
+    end-beyond = dead-columns (2 * start) start l (omega arith) n (λ i g. inr (inl (omega arith)))
+
+    pub beyond-asked : BelowAsked costs A B b m q start noKey l
+    beyond-asked =
+        below-from end-beyond (omega arith) (omega (arith, pow-mono a))
+        (sym (cell-dead costs A B start b false (m / 2 ^ start) (inr (inl (omega arith)))))
+
+-- The column in which the rest is 1: the highest set digit of m.
+pub top-of : (m : ℕ) → 1 ≤ m → m < 2 ^ 64
+    → (leadingZeros 64 m ≤ 63) × (2 ^ (63 - leadingZeros 64 m) ≤ m) × (m < 2 ^ suc (63 - leadingZeros 64 m))
+top-of m h k =
+    let t = leading-top 64 m h k in
+    let e : 63 - leadingZeros 64 m ≡ t .0 = omega (arith, t .1) in
+    (omega (arith, t .1), rw e (t .2), rw e (t .3))
+
+-- ---- the rows
+
+-- What filling the rows from b on asks.
+pub record RowsOfKeys (costs : List ℕ) (b m : ℕ) (l : List ℕ) : Type 0 where
+  pub low : Low costs
+  pub asked : RowsAsked b m l
+
+-- Where something is left there is a row.
+row-left : {b m : ℕ} {l : List ℕ} → RowsAsked b m l → 1 ≤ m → b < 41
+row-left {b} {m} r some =
+    lt-of-not-le (λ (g : 41 ≤ b). omega (arith, r .below, mul-le-mul some (pow-le-pow-right {n = 3} (omega arith) g)))
+
+-- The rows from b on have no word.
+pub dead-rows : (costs : List ℕ) (A B b m : ℕ) {entry l : List ℕ} → NoKeys (128 * b) 5248 entry l → (m ≡ 0) ⊎ (B < b)
+    → RowsFilled (keyCell costs A B) b m entry l
+dead-rows costs A B b m {l = l} n d =
+    record {
+      rows = record {
+        row = λ i h k. record {
+          free = λ j _ u. at (2 * j) i j true h k (omega arith);
+          after-a = λ j _ u. at (2 * j + 1) i j false h k (omega arith);
+        };
+      };
+      same = n .same;
+      later = n .later;
+    }
+  where
+    nothing : (i j : ℕ) → b ≤ i → Dead A B j i (m / 3 ^ (i - b) / 2 ^ j)
+    nothing i j h = ⊎-elim (λ (e : m ≡ 0). inl (rw (e, zero-div, zero-div))) (λ (k : B < b). inr (inr (omega arith))) d
+
+    at : (p i j : ℕ) (f : Bool) → b ≤ i → i < 41 → p < 128 → getD (drop (128 * i) l) p 0 ≡ keyCell costs A B j i f (m / 3 ^ (i - b) / 2 ^ j)
+    at p i j f h k u =
+        getD-drop (128 * i) l p 0
+        ∙ n .keys (128 * i + p) (omega arith) (omega arith)
+        ∙ sym (cell-dead costs A B j i f (m / 3 ^ (i - b) / 2 ^ j) (nothing i j h))
+
+-- Row b, where something is left, and those above it.
+module _ {costs : List ℕ} {b m : ℕ} {entry : List ℕ} (r : RowsOfKeys costs b m entry) (some : 1 ≤ m) where
+  pub keys-above : RowsOfKeys costs (b + 1) (m / 3) entry
+  keys-above = record { low = r .low; asked = rows-above (b + 1) (r .asked) (row-left (r .asked) some) (add-one b) }
+
+  module _ (A B : ℕ) {l : List ℕ} (f : RowsFilled (keyCell costs A B) (b + 1) (m / 3) entry l) where
+    pub keys-lent : b ≤ B → RowOfKeys costs A B b m (m / 3) (midOf (128 * b) (length l - 128 * b) l)
+    keys-lent h =
+        record {
+          asked = row-lent (keyCell costs A B) (r .asked) (row-left (r .asked) some) (add-one b) f;
+          low = r .low;
+          some = some;
+          within = h;
+        }
+
+    pub keys-more : {part : List ℕ} → RowFilled (keyCell costs A B) b m 0 (midOf (128 * b) (length l - 128 * b) l) part
+        → RowsFilled (keyCell costs A B) b m entry (putMid (128 * b) (length l - 128 * b) l part)
+    keys-more {part} = row-more (keyCell costs A B) (r .asked) (row-left (r .asked) some) (add-one b) f part

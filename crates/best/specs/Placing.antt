@@ -1,0 +1,111 @@
+-- Placing: what it answers for a word whose chain has a price; and how the answer of the best chain comes out, case by case.
+--
+-- In this order: the answer of placing; what holds at each return of the best chain; too little is lent, and enough; the chosen word, and
+-- no word.
+use mathlib.Core.Path.{_≡_, refl, sym, ap, _∙_}
+use mathlib.Core.Bool.{Bool, true, false, _||_}
+use mathlib.Core.List.{List, [], _++_}
+use mathlib.Core.Option.{Option, none, some}
+use Prim.Native.Nat.{ℕ, _-_, _^_, _≤_, _<_}
+use native.Mathlib.Nat.{sub-zero}
+use native.Mathlib.Omega.{arith}
+use borrow.Author.Tests.{lt-ltb, le-ltb, le-leb}
+use borrow.Rule.Slice.PartMut.{midOf, putMid}
+use lib.Dec.{T, ltb}
+use lib.Ieee.Bits.{is-true}
+use lib.ListN.{length, take, drop}
+use Rattle.chains.specs.Chains.{Part}
+use Rattle.chains.specs.Words.{Word, origin, chainOf, reads}
+use Rattle.chains.specs.Listing.{wordsAt, position}
+use Rattle.chains.specs.Best.{Prices, price, Limits}
+use Rattle.chains.specs.Weight.{weight}
+use Rattle.chains.specs.BestOfAll.{costsOf, upTo, bestOf}
+use Rattle.lent.specs.Lent.{zeros, filled, cleared}
+use Rattle.grid.specs.Grid.{scratchSize}
+use Rattle.ranking.specs.Services.{Outcome, refused, gives, pick, pickList, tooLittle, lent, answerOf, placesLeft, scratchLeft, ofWord}
+use Rattle.ranking.specs.declared.Found.{Found}
+use Rattle.ranking.specs.declared.Found.the-variants as found
+use Rattle.best.specs.declared.Chosen.{Chosen}
+use Rattle.best.specs.declared.Chosen.the-variants.{Chain, Refused}
+use Rattle.best.specs.Chosen.{orNone, bestOutcome, chosenOf}
+use Rattle.best.specs.KeyTable.{partWeight}
+use Rattle.best.specs.Choosing.{Used, WordChosen, best-listed}
+
+-- What was found, with a price.
+unfoldable pub pricedOf : ℕ → Found → Chosen
+pricedOf p (found.Chain n i k) = Chain i k p
+pricedOf p (found.Refused r) = Refused r
+
+-- ---- at a return
+
+-- The answer r, the places p′ and the scratch s′ are those of an outcome, where s and p were lent.
+abbrev pub Served : Prices → Outcome → List ℕ → List ℕ → Chosen → List ℕ → List ℕ → Type 0
+Served π o s p r p′ s′ =
+    (r ≡ chosenOf π (lent s p o)) × ((p′ ≡ placesLeft (lent s p o) p) × (s′ ≡ scratchLeft (tooLittle s p) s))
+
+module _ (π : Prices) (o : Outcome) (s p : List ℕ) where
+  little : tooLittle s p ≡ true → Served π o s p (Refused 1) p s
+  unfolding chosenOf lent pick placesLeft scratchLeft pickList
+  little e = rw e (refl, (refl, refl))
+
+  pub little-scratch : length s < scratchSize → Served π o s p (Refused 1) p s
+  unfolding tooLittle
+  little-scratch h = little (rw (lt-ltb (length s) scratchSize h))
+
+  pub little-places : scratchSize ≤ length s → length p < 64 → Served π o s p (Refused 1) p s
+  unfolding tooLittle
+  little-places h k = little (rw (le-ltb (length s) scratchSize h, lt-ltb (length p) 64 k))
+
+-- Enough is lent.
+pub record Enough (s p : List ℕ) : Type 0 where
+  pub numbers : scratchSize ≤ length s
+  pub room : 64 ≤ length p
+
+not-little : (s p : List ℕ) → Enough s p → tooLittle s p ≡ false
+unfolding tooLittle
+not-little s p h = rw (le-ltb (length s) scratchSize (h .numbers), le-ltb (length p) 64 (h .room))
+
+pub lent-all : (s p : List ℕ) (o : Outcome) → Enough s p → lent s p o ≡ o
+unfolding lent pick
+lent-all s p o h = rw (not-little s p h)
+
+scratch-zeroed : (s p : List ℕ) → Enough s p → scratchLeft (tooLittle s p) s ≡ filled scratchSize [] s
+unfolding scratchLeft pickList
+scratch-zeroed s p h = rw (not-little s p h)
+
+module _ (π : Prices) (n : ℕ) (lim : Limits) {s p : List ℕ} (h : Enough s p) where
+  -- ---- no word
+
+  pub none-served : {l ys : List ℕ} → Used s l → bestOf partWeight n lim π ≡ none → ys ≡ zeros (length (midOf 0 scratchSize l))
+      → Served π (bestOutcome n lim π) s p (Refused 5) p (putMid 0 scratchSize l ys)
+  unfolding bestOutcome orNone chosenOf placesLeft
+  none-served {l} {ys} u e z =
+      rw (lent-all s p (bestOutcome n lim π) h, scratch-zeroed s p h, e)
+      (refl, (refl, cleared scratchSize s l ys (omega (arith, h .numbers, u .same)) (u .later) z))
+
+  -- ---- the chosen word
+
+  module _ {letters : List ℕ} {k told : ℕ} (fits : n < 2 ^ 64) (w : WordChosen n lim π letters k told) where
+    read : ofWord (take k letters) ≡ gives n (chainOf (take k letters))
+    unfolding ofWord pick
+    read =
+        let m = best-listed (costsOf partWeight π) (lim .A) (lim .B) n (take k letters) (w .word) in
+        rw (is-true (reads true (take k letters)) (m .0), m .1, lt-ltb n (2 ^ 64) fits)
+
+    best : bestOutcome n lim π ≡ gives n (chainOf (take k letters))
+    unfolding bestOutcome orNone bestOf upTo
+    best = rw (w .word, le-leb (length (chainOf (take k letters))) (lim .K) (w .parts))
+
+    pub word-served : {l p′ s′ : List ℕ} {r : Chosen} → Used s l
+        → r ≡ pricedOf told (answerOf (lent l p (ofWord (take k letters))))
+        → p′ ≡ placesLeft (lent l p (ofWord (take k letters))) p
+        → s′ ≡ scratchLeft (tooLittle l p) l
+        → Served π (bestOutcome n lim π) s p r p′ s′
+    unfolding pricedOf answerOf chosenOf filled
+    word-served {l} u e f g =
+        let still : Enough l p = record { numbers = omega (arith, h .numbers, u .same); room = h .room } in
+        let all = lent-all l p (ofWord (take k letters)) still in
+        rw (lent-all s p (bestOutcome n lim π) h, best, scratch-zeroed s p h) (
+          e ∙ rw (all, read, w .told),
+          (f ∙ rw (all, read), g ∙ scratch-zeroed l p still ∙ rw (u .later)),
+        )

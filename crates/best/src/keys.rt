@@ -1,0 +1,154 @@
+// Filling the table of keys: document 01's scratch, each of its rows lent on as a part that starts in the middle, and filled there by
+// one row step.
+//
+// A row is filled from its last column down, each cell from the one right of it and the one above it. The rest of column a is m >> a,
+// its third q >> a, where m and q are the rests of the first columns of the row and of the row above, so nothing is divided. A remainder
+// is a place in a short list of costs, and no branch.
+//
+// `doublings` and `triplings` are the limits A and B.
+ghost use mathlib.Core.Path.{_≡_};
+ghost use Prim.Native.Nat.{_<_, _≤_, _*_, _^_, min};
+ghost use lib.ListN.{length};
+ghost use Rattle.grid.specs.Grid.{RowFilled, RowsFilled};
+ghost use Rattle.best.specs.KeyTable.{letterCosts, keyCell, CellAsked, CellBy};
+ghost use Rattle.best.specs.Chosen.{pricesOf};
+ghost use Rattle.best.specs.KeyRows.{NoKeys, BelowAsked, RowOfKeys, RowsOfKeys};
+
+// What a part counts in a key.
+pub const PART: u64 = 1 << 32;
+
+// The key of no word.
+const NONE: u64 = 1 << 40;
+
+// What the letters 0 to 3 cost where they are not the last. The fifth number stands for a rise that may not be made.
+pub fn letter_costs(d: u16, t: u16, s: u16) -> [u64; 5]
+    ensures { λ r. ⌜ r ≡ letterCosts (pricesOf d t s) ⌝ }
+{
+    let addition = PART + s as u64;
+    [
+        d as u64,
+        addition + d as u64,
+        t as u64,
+        addition + t as u64,
+        NONE,
+    ]
+}
+
+fn least(x: u64, y: u64) -> u64
+    ensures { λ r. ⌜ r ≡ min x y ⌝ }
+{
+    if x < y { x } else { y }
+}
+
+// No word from `from` up to but without `end`.
+fn fill_none(part: &mut [u64], from: usize, end: usize)
+    requires { ⌜ (from ≤ end) × (end ≤ length (now part)) ⌝ }
+    ensures { λ _. ⌜ NoKeys from end (now (part .entry)) (now (part .exit)) ⌝ }
+{
+    let mut i = from;
+    while i < end {
+        part[i] = NONE;
+        i += 1;
+    }
+}
+
+// The two numbers of a cell, not yet cut at `NONE`: of the reader at the start and after b has risen, and of the reader after a has
+// risen.
+struct Cell {
+    free: u64,
+    after: u64,
+}
+
+// A cell from a rest of 2 on, where `right` is the second number of the cell right of it, not yet cut, and `above` the first of the
+// cell above it. The remainder by three is 0, 1 or 2: at 1 both readers let b rise, at 0 the first alone, at 2 none.
+fn cell_of(rest: u64, third: u64, right: u64, above: u64, costs: &[u64; 5]) -> Cell
+    requires { ⌜ CellAsked (now costs) rest third right above ⌝ }
+    ensures { λ r. ⌜ CellBy (now (costs .entry)) rest right above (r .free) (r .after) ⌝ }
+{
+    let rem = (rest - 3 * third) as usize;
+    let half = right + costs[(rest % 2) as usize];
+    Cell {
+        free: least(half, above + costs[2 + rem]),
+        after: least(half, above + costs[4 - rem % 2]),
+    }
+}
+
+// The columns below `start`, where those from `start` on are filled and `right` is the second number of column `start`. The number
+// that goes from column to column is not cut, so that no step waits for the cut.
+fn fill_below(
+    part: &mut [u64],
+    m: u64,
+    q: u64,
+    b: usize,
+    start: usize,
+    right: u64,
+    costs: &[u64; 5],
+    doublings: usize,
+    triplings: usize,
+)
+    requires { ⌜ BelowAsked (now costs) doublings triplings b m q start right (now part) ⌝ }
+    ensures { λ _. ⌜ RowFilled (keyCell (now (costs .entry)) doublings triplings) b m 0 (now (part .entry)) (now (part .exit)) ⌝ }
+{
+    let mut after = right;
+    let mut a = start;
+    while 0 < a {
+        a -= 1;
+        let cell = cell_of(m >> a, q >> a, after, part[128 + 2 * a], costs);
+        after = cell.after;
+        part[2 * a + 1] = least(NONE, after);
+        part[2 * a] = least(NONE, cell.free);
+    }
+}
+
+// The row step: one row, in the part that begins at it, the row above at 128. In the column `top` the rest is 1.
+fn fill_row(
+    part: &mut [u64],
+    m: u64,
+    q: u64,
+    b: usize,
+    costs: &[u64; 5],
+    doublings: usize,
+    triplings: usize,
+)
+    requires { ⌜ RowOfKeys (now costs) doublings triplings b m q (now part) ⌝ }
+    ensures { λ _. ⌜ RowFilled (keyCell (now (costs .entry)) doublings triplings) b m 0 (now (part .entry)) (now (part .exit)) ⌝ }
+{
+    let top = 63 - u64::leading_zeros(m) as usize;
+    if top <= doublings {
+        fill_none(part, 2 * top + 2, 128);
+        part[2 * top + 1] = PART;
+        part[2 * top] = PART;
+        fill_below(part, m, q, b, top, PART, costs, doublings, triplings);
+    } else {
+        let start = doublings + 1;
+        fill_none(part, 2 * start, 128);
+        fill_below(part, m, q, b, start, NONE, costs, doublings, triplings);
+    }
+}
+
+// The rows from b on, where m is the rest of row b's first column: those above first. Where nothing is left, or b is above its limit,
+// no cell has a word.
+pub fn fill_rows(
+    scratch: &mut [u64],
+    b: usize,
+    m: u64,
+    costs: &[u64; 5],
+    doublings: usize,
+    triplings: usize,
+)
+    requires { ⌜ RowsOfKeys (now costs) b m (now scratch) ⌝ }
+    ensures { λ _. ⌜ RowsFilled (keyCell (now (costs .entry)) doublings triplings) b m (now (scratch .entry)) (now (scratch .exit)) ⌝ }
+{
+    let at = 128 * b;
+    if m == 0 {
+        fill_none(scratch, at, 5248);
+        return;
+    }
+    if b > triplings {
+        fill_none(scratch, at, 5248);
+        return;
+    }
+    let q = m / 3;
+    fill_rows(scratch, b + 1, q, costs, doublings, triplings);
+    fill_row(&mut scratch[at..], m, q, b, costs, doublings, triplings);
+}

@@ -1,0 +1,16 @@
+-- `pair_of` answers the field of two bytes, which is below 65,536.
+use mathlib.Core.Path.{_∙_}
+use native.Mathlib.Omega.{arith}
+use borrow.Author.Needs.{needs}
+use Rattle.lines.specs.LineLaws.{field-below, field-fits}
+use Rattle.lines.proofs.pair_of.Statement.{statement}
+use Rattle.lines.proofs.pair_of.Tie as tie
+
+cast-result : tie.Need-cast-result
+cast-result c = omega (arith, field-below (c .before .before .args .line .now) (c .before .before .args .at) 2)
+
+returns : tie.Need-returns
+returns c = c .field-of .ensures ∙ field-fits _ _ 2 (omega arith)
+
+pub pair-of-spec : {M : Type 1} → statement M
+pair-of-spec = tie.close (tie.spec (λ c κs. search needs) cast-result returns)

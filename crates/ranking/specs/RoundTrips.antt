@@ -1,0 +1,334 @@
+-- Demand 2: what one service answers and leaves in the places, handed to another, leads back.
+-- In order: what an answer says of its outcome; the part numbers that stand in the places; all services for a chain of n; from a
+-- record to the chain at its position and back; from a word to its record and back; from a word to the next one.
+-- That the outcomes are 003's chains and their positions, each as the service's definition has it, is in Outcomes.
+use mathlib.Core.Path.{_≡_, refl, sym, ap, _∙_}
+use mathlib.Core.Logic.{_↔_}
+use mathlib.Core.Bool.{Bool, true, false}
+use mathlib.Core.List.{List, map}
+use Prim.Native.Nat.{ℕ, _+_, _^_, _≤_, _<_}
+use native.Mathlib.Decide.{decLt}
+use native.Mathlib.Omega.{arith}
+use borrow.Author.Tests.{le-ltb}
+use lib.Dec.{ltb}
+use lib.ListN.{length, take, length-map}
+use Rattle.chains.specs.Chains.{Part, ChainOf}
+use Rattle.chains.specs.Words.{Word, wordOf}
+use Rattle.chains.specs.Listing.{count, position}
+use Rattle.chains.specs.PositionsOfChains.{at-position}
+use Rattle.grid.specs.Grid.{scratchSize}
+use Rattle.lent.specs.Lent.{filled, filled-first}
+use Rattle.parts.specs.Parts.{placeOf}
+use Rattle.words.specs.Conversions.{writtenOf, lettersLeft}
+use Rattle.words.specs.WordLaws.{chain-written}
+use Rattle.words.specs.declared.Written.the-variants as written
+use Rattle.ranking.specs.Services.{
+  Outcome,
+  refused,
+  gives,
+  pick,
+  tooLittle,
+  lent,
+  lentScratch,
+  answerOf,
+  placesLeft,
+  placedOf,
+  atPosition,
+  ofWord,
+  nextOf,
+  ofRecord,
+}
+use Rattle.ranking.specs.Outcomes.{at-below, at-past, at-chain, at-gives, of-chain, of-gives, next-below, next-last, next-gives, record-chain, record-gives}
+use Rattle.ranking.specs.declared.Placed.the-variants as placed
+use Rattle.ranking.specs.declared.Found.the-variants as found
+
+-- ---- answers and outcomes
+
+-- Enough is lent.
+pub record Enough (scratch places : List ℕ) : Type 0 where
+  pub numbers : scratchSize ≤ length scratch
+  pub room : 64 ≤ length places
+
+enough : (scratch places : List ℕ) → Enough scratch places → tooLittle scratch places ≡ false
+unfolding tooLittle
+enough scratch places h = rw (le-ltb (length scratch) scratchSize (h .numbers), le-ltb (length places) 64 (h .room))
+
+lent-enough : (scratch places : List ℕ) (o : Outcome) → tooLittle scratch places ≡ false → lent scratch places o ≡ o
+unfolding lent pick
+lent-enough scratch places o e = rw e
+
+scratch-enough : (scratch : List ℕ) (o : Outcome) → scratchSize ≤ length scratch → lentScratch scratch o ≡ o
+unfolding lentScratch pick
+scratch-enough scratch o h = rw (le-ltb (length scratch) scratchSize h)
+
+-- A chain is answered only where enough is lent and the service's own outcome gives one.
+pick-gives : (b : Bool) (r : ℕ) (o : Outcome) (n : ℕ) (c : List Part) → pick b (refused r) o ≡ gives n c → (b ≡ false) × (o ≡ gives n c)
+unfolding pick
+pick-gives true r o n c e =
+    let z : _≡_ {A = ℕ} 0 1 = cc in
+    absurd (omega arith)
+pick-gives false r o n c e = (refl, e)
+
+found-gives :
+    {P : Type 0} (scratch places : List ℕ) (o : Outcome) (n i k : ℕ)
+    → answerOf (lent scratch places o) ≡ found.Chain n i k
+    → ((c : List Part) → o ≡ gives n c → tooLittle scratch places ≡ false → position n c ≡ i → length c ≡ k → P)
+    → P
+unfolding lent answerOf
+found-gives {P} scratch places o n i k e then = go (lent scratch places o) refl
+  where
+    go : (x : Outcome) → lent scratch places o ≡ x → P
+    go (refused r) f =
+        let g = rw f at e in
+        let z : _≡_ {A = ℕ} 0 1 = cc g in
+        absurd (omega arith)
+    go (gives m c) f =
+        let g = rw f at e in
+        let number : m ≡ n = cc g in
+        let own = pick-gives (tooLittle scratch places) 1 o m c f in
+        then c (own .1 ∙ ap (λ (x : ℕ). gives x c) number) (own .0) (cc g) (cc g)
+
+placed-gives :
+    {P : Type 0} (scratch : List ℕ) (o : Outcome) (n i : ℕ)
+    → placedOf (lentScratch scratch o) ≡ placed.At n i
+    → ((c : List Part) → o ≡ gives n c → position n c ≡ i → P)
+    → P
+unfolding lentScratch placedOf
+placed-gives {P} scratch o n i e then = go (lentScratch scratch o) refl
+  where
+    go : (x : Outcome) → lentScratch scratch o ≡ x → P
+    go (refused r) f =
+        let g = rw f at e in
+        let z : _≡_ {A = ℕ} 0 1 = cc g in
+        absurd (omega arith)
+    go (gives m c) f =
+        let g = rw f at e in
+        let number : m ≡ n = cc g in
+        let own = pick-gives (ltb (length scratch) scratchSize) 1 o m c f in
+        then c (own .1 ∙ ap (λ (x : ℕ). gives x c) number) (cc g)
+
+-- ---- the part numbers in the places
+
+-- The first k places are the part numbers of the chain.
+pub numbers-left : (n : ℕ) (c : List Part) (entry : List ℕ) → take (length c) (placesLeft (gives n c) entry) ≡ map placeOf c
+unfolding placesLeft
+numbers-left n c entry = rw (← length-map c placeOf) (filled-first 64 (map placeOf c) entry)
+
+-- Read as a record, they tell the chain's position.
+left-record :
+    (o : Outcome) (n i k : ℕ) (c : List Part) (places l : List ℕ)
+    → o ≡ gives n c
+    → position n c ≡ i
+    → length c ≡ k
+    → take k (placesLeft o places) ≡ l
+    → ChainOf n c
+    → n < 2 ^ 64
+    → (s : List ℕ)
+    → scratchSize ≤ length s
+    → placedOf (lentScratch s (ofRecord l)) ≡ placed.At n i
+unfolding placedOf
+left-record o n i k c places l e there size first chain f s h =
+    rw (
+      ← first,
+      e,
+      ← there,
+      ← size,
+      numbers-left n c places,
+      scratch-enough s (ofRecord (map placeOf c)) h,
+      record-chain n c chain f,
+    )
+
+-- The letters that stand first in the room are the word of the numbers written.
+letters-left :
+    (n : ℕ) (c : List Part)
+    → ChainOf n c
+    → n < 2 ^ 64
+    → (room : List ℕ)
+    → 64 ≤ length room
+    → take (length (wordOf c)) (lettersLeft (map placeOf c) room (writtenOf (map placeOf c) (length room))) ≡ wordOf c
+letters-left n c chain f room h = rw (chain-written n c chain f room h .1) (filled-first 64 (wordOf c) room)
+
+-- ---- a chain of n
+
+-- What the services answer and leave behind for a chain c of n, asked by its record, its position and its word.
+pub record Trips (n : ℕ) (c : List Part) (scratch places room : List ℕ) : Type 0 where
+  pub read-record : placedOf (lentScratch scratch (ofRecord (map placeOf c))) ≡ placed.At n (position n c)
+  pub chain-at : lent scratch places (atPosition n (position n c)) ≡ gives n c
+  pub read-word : lent scratch places (ofWord (wordOf c)) ≡ gives n c
+  pub next-chain : position n c + 1 < count n
+      → lent scratch places (nextOf (ofWord (wordOf c))) ≡ lent scratch places (atPosition n (position n c + 1))
+  pub next-last : position n c + 1 ≡ count n → lent scratch places (nextOf (ofWord (wordOf c))) ≡ refused 11
+  pub write-word : writtenOf (map placeOf c) (length room) ≡ written.Letters (length (wordOf c))
+  pub word-left : lettersLeft (map placeOf c) room (writtenOf (map placeOf c) (length room)) ≡ filled 64 (wordOf c) room
+
+pub chain-trips :
+    (n : ℕ) (c : List Part) (scratch places room : List ℕ)
+    → ChainOf n c
+    → n < 2 ^ 64
+    → Enough scratch places
+    → 64 ≤ length room
+    → Trips n c scratch places room
+unfolding placedOf
+chain-trips n c scratch places room h f e r =
+    let served : (o : Outcome) → lent scratch places o ≡ o = λ o. lent-enough scratch places o (enough scratch places e) in
+    record {
+      read-record = rw (scratch-enough scratch (ofRecord (map placeOf c)) (e .numbers), record-chain n c h f);
+      chain-at = served (atPosition n (position n c)) ∙ at-chain n c h;
+      read-word = served (ofWord (wordOf c)) ∙ of-chain n c h f;
+      next-chain = λ l. ap (lent scratch places) (next-below n c h f l);
+      next-last = λ l. served (nextOf (ofWord (wordOf c))) ∙ next-last n c h f l;
+      write-word = chain-written n c h f room r .0;
+      word-left = chain-written n c h f room r .1;
+    }
+
+-- ---- records and positions
+
+-- What reading a record tells, asked for at that position, gives that record.
+pub record-then-position :
+    (l s : List ℕ) (n i : ℕ)
+    → placedOf (lentScratch s (ofRecord l)) ≡ placed.At n i
+    → (scratch places : List ℕ)
+    → Enough scratch places
+    → (answerOf (lent scratch places (atPosition n i)) ≡ found.Chain n i (length l))
+    × (placesLeft (lent scratch places (atPosition n i)) places ≡ filled 64 l places)
+unfolding answerOf placesLeft
+record-then-position l s n i e scratch places h =
+    placed-gives s (ofRecord l) n i e λ c given there.
+    let (chain, numbers, f) = record-gives l n c given in
+    let at : atPosition n i ≡ gives n c = rw there at (at-chain n c chain) in
+    rw (lent-enough scratch places (atPosition n i) (enough scratch places h), at, there, ← numbers, length-map c placeOf) (refl, refl)
+
+-- What the chain at a position leaves in the places, read as a record, tells that position.
+pub position-then-record :
+    (n i m j k : ℕ) (scratch places l : List ℕ)
+    → n < 2 ^ 64
+    → answerOf (lent scratch places (atPosition n i)) ≡ found.Chain m j k
+    → take k (placesLeft (lent scratch places (atPosition n i)) places) ≡ l
+    → (s : List ℕ)
+    → scratchSize ≤ length s
+    → (m ≡ n) × (j ≡ i) × (placedOf (lentScratch s (ofRecord l)) ≡ placed.At n i)
+position-then-record n i m j k scratch places l f e first s h =
+    found-gives scratch places (atPosition n i) m j k e λ c given own there size.
+    let (number, chain, at) = at-gives n i m c given in
+    let outcome = lent-enough scratch places (atPosition n i) own ∙ given ∙ ap (λ (x : ℕ). gives x c) number in (
+      number,
+      sym there ∙ ap (λ (x : ℕ). position x c) number ∙ at,
+      left-record (lent scratch places (atPosition n i)) n i k c places l outcome at size first chain f s h,
+    )
+
+-- A position is refused with 6 exactly where it is not below the count.
+pub position-refused :
+    (n i : ℕ) (scratch places : List ℕ)
+    → Enough scratch places
+    → (answerOf (lent scratch places (atPosition n i)) ≡ found.Refused 6) ↔ (count n ≤ i)
+unfolding answerOf
+position-refused n i scratch places h =
+    rw (lent-enough scratch places (atPosition n i) (enough scratch places h))
+    (λ e. only e (decLt i (count n)), λ l. rw (at-past n i l))
+  where
+    only : answerOf (atPosition n i) ≡ found.Refused 6 → Dec (i < count n) → count n ≤ i
+    only e (yes l) =
+        let z : _≡_ {A = ℕ} 0 1 = cc (rw (at-below n i l) at e) in
+        absurd (omega arith)
+    only e (no l) = omega arith
+
+-- ---- words and records
+
+-- What reading a word leaves in the places, written as a word, is that word.
+pub word-then-word :
+    (w : Word) (n i k : ℕ) (scratch places l : List ℕ)
+    → answerOf (lent scratch places (ofWord w)) ≡ found.Chain n i k
+    → take k (placesLeft (lent scratch places (ofWord w)) places) ≡ l
+    → (room : List ℕ)
+    → 64 ≤ length room
+    → (writtenOf l (length room) ≡ written.Letters (length w))
+    × (lettersLeft l room (writtenOf l (length room)) ≡ filled 64 w room)
+word-then-word w n i k scratch places l e first room h =
+    found-gives scratch places (ofWord w) n i k e λ c given own there size.
+    let (chain, word, f) = of-gives w n c given in
+    let numbers : map placeOf c ≡ l = rw (lent-enough scratch places (ofWord w) own, given, ← size, numbers-left n c places) at first in
+    rw (← numbers, ← word) (chain-written n c chain f room h)
+
+-- Read as a record, it tells the word's number and position.
+pub word-then-record :
+    (w : Word) (n i k : ℕ) (scratch places l : List ℕ)
+    → answerOf (lent scratch places (ofWord w)) ≡ found.Chain n i k
+    → take k (placesLeft (lent scratch places (ofWord w)) places) ≡ l
+    → (s : List ℕ)
+    → scratchSize ≤ length s
+    → placedOf (lentScratch s (ofRecord l)) ≡ placed.At n i
+word-then-record w n i k scratch places l e first s h =
+    found-gives scratch places (ofWord w) n i k e λ c given own there size.
+    let (chain, word, f) = of-gives w n c given in
+    let outcome = lent-enough scratch places (ofWord w) own ∙ given in
+    left-record (lent scratch places (ofWord w)) n i k c places l outcome there size first chain f s h
+
+-- The word written of a record, read, gives that record.
+pub record-then-word :
+    (l s : List ℕ) (n i k : ℕ) (room : List ℕ) (w : Word)
+    → placedOf (lentScratch s (ofRecord l)) ≡ placed.At n i
+    → 64 ≤ length room
+    → writtenOf l (length room) ≡ written.Letters k
+    → take k (lettersLeft l room (writtenOf l (length room))) ≡ w
+    → (scratch places : List ℕ)
+    → Enough scratch places
+    → (answerOf (lent scratch places (ofWord w)) ≡ found.Chain n i (length l))
+    × (placesLeft (lent scratch places (ofWord w)) places ≡ filled 64 l places)
+unfolding answerOf placesLeft
+record-then-word l s n i k room w e h told first scratch places g =
+    placed-gives s (ofRecord l) n i e λ c given there.
+    let (chain, numbers, f) = record-gives l n c given in
+    let (letters, left) = chain-written n c chain f room h in
+    let size : length (wordOf c) ≡ k = cc (rw numbers at letters) in
+    let word : wordOf c ≡ w = sym (letters-left n c chain f room h) ∙ rw (← numbers, ← size) at first in
+    rw (
+      lent-enough scratch places (ofWord w) (enough scratch places g),
+      ← word,
+      of-chain n c chain f,
+      there,
+      ← numbers,
+      length-map c placeOf,
+    )
+    (refl, refl)
+
+-- ---- the next chain
+
+-- What comes next of a word is what stands one position after what reading the word tells.
+pub word-then-next :
+    (w : Word) (n j k : ℕ) (scratch places : List ℕ)
+    → answerOf (lent scratch places (nextOf (ofWord w))) ≡ found.Chain n j k
+    → (i k′ : ℕ) × (answerOf (lent scratch places (ofWord w)) ≡ found.Chain n i k′) × (j ≡ i + 1)
+    × (lent scratch places (nextOf (ofWord w)) ≡ lent scratch places (atPosition n j))
+unfolding answerOf
+word-then-next w n j k scratch places e =
+    found-gives scratch places (nextOf (ofWord w)) n j k e λ c given own there size.
+    let (d, word, chain, on) = next-gives w n c given in (
+      position n d,
+      length d,
+      rw (lent-enough scratch places (ofWord w) own, word),
+      sym there ∙ on,
+      ap (lent scratch places) (given ∙ sym (rw there at (at-chain n c chain))),
+    )
+
+last : (n : ℕ) (c : List Part) → ChainOf n c → n < 2 ^ 64
+    → (answerOf (nextOf (ofWord (wordOf c))) ≡ found.Refused 11) ↔ (position n c + 1 ≡ count n)
+unfolding answerOf
+last n c h f = (λ e. only e (decLt (position n c + 1) (count n)), λ l. rw (next-last n c h f l))
+  where
+    only : answerOf (nextOf (ofWord (wordOf c))) ≡ found.Refused 11 → Dec (position n c + 1 < count n) → position n c + 1 ≡ count n
+    only e (yes l) =
+        let g = rw (next-below n c h f l, at-below n (position n c + 1) l) at e in
+        let z : _≡_ {A = ℕ} 0 1 = cc g in
+        absurd (omega arith)
+    only e (no l) = omega (arith, at-position n c h .0)
+
+-- It is refused with 11 exactly where that is the last position.
+pub next-refused :
+    (w : Word) (n i k : ℕ) (scratch places : List ℕ)
+    → answerOf (lent scratch places (ofWord w)) ≡ found.Chain n i k
+    → (answerOf (lent scratch places (nextOf (ofWord w))) ≡ found.Refused 11) ↔ (i + 1 ≡ count n)
+unfolding answerOf
+next-refused w n i k scratch places e =
+    found-gives scratch places (ofWord w) n i k e λ c given own there size.
+    let (chain, word, f) = of-gives w n c given in
+    rw (lent-enough scratch places (nextOf (ofWord w)) own, ← word, ← there) (last n c chain f)

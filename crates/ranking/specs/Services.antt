@@ -1,0 +1,106 @@
+-- The services that find a chain or its place in the list of n: document 01, 'Services and memory' and the table of refusals.
+--
+-- Each service has an outcome: a refusal by its number, or a chain of n. What it answers, and what it leaves in the places and in
+-- the scratch, follow from the outcome alone, by one rule for all services.
+-- Definitions only. Demand 2 as theorems on these answers is in RoundTrips.
+use mathlib.Core.Bool.{Bool, true, false, _||_}
+use mathlib.Core.List.{List, [], map}
+use Prim.Native.Nat.{ℕ, _+_, _^_}
+use lib.Dec.{ltb, leb}
+use lib.ListN.{length}
+use Rattle.chains.specs.Chains.{Part}
+use Rattle.chains.specs.Words.{Word, chainOf, reads}
+use Rattle.chains.specs.Weight.{weight}
+use Rattle.chains.specs.Listing.{count, position, chainAt}
+use Rattle.grid.specs.Grid.{scratchSize}
+use Rattle.lent.specs.Lent.{filled}
+use Rattle.parts.specs.Parts.{placeOf}
+use Rattle.words.specs.declared.Judged.{Judged}
+use Rattle.words.specs.declared.Judged.the-variants as judged
+use Rattle.words.specs.Records.{recordParts, judgedOf}
+use Rattle.ranking.specs.declared.Placed.{Placed}
+use Rattle.ranking.specs.declared.Placed.the-variants as placed
+use Rattle.ranking.specs.declared.Found.{Found}
+use Rattle.ranking.specs.declared.Found.the-variants as found
+
+-- ---- outcomes
+
+-- A refusal by its number in document 01's table, or a number and a chain of it.
+pub data Outcome : Type 0 where
+  refused : ℕ → Outcome
+  gives : ℕ → List Part → Outcome
+
+unfoldable pub pick : Bool → Outcome → Outcome → Outcome
+pick true x y = x
+pick false x y = y
+
+-- Too little is lent: a scratch under 5,248, or fewer than 64 places.
+unfoldable pub tooLittle : List ℕ → List ℕ → Bool
+tooLittle scratch places = ltb (length scratch) scratchSize || ltb (length places) 64
+
+-- Refusal 1 first.
+unfoldable pub lent : List ℕ → List ℕ → Outcome → Outcome
+lent scratch places o = pick (tooLittle scratch places) (refused 1) o
+
+-- ---- what a service answers and leaves behind
+
+-- The number, its position in the list and how many parts it has, or the refusal.
+unfoldable pub answerOf : Outcome → Found
+answerOf (refused r) = found.Refused r
+answerOf (gives n c) = found.Chain n (position n c) (length c)
+
+-- The places at exit: the part numbers, largest part first, zeros up to 64, later places untouched; untouched with a refusal.
+unfoldable pub placesLeft : Outcome → List ℕ → List ℕ
+placesLeft (refused r) entry = entry
+placesLeft (gives n c) entry = filled 64 (map placeOf c) entry
+
+unfoldable pub pickList : Bool → List ℕ → List ℕ → List ℕ
+pickList true x y = x
+pickList false x y = y
+
+-- The scratch at exit: untouched with refusal 1, else its first 5,248 zero and the rest untouched.
+unfoldable pub scratchLeft : Bool → List ℕ → List ℕ
+scratchLeft little entry = pickList little entry (filled scratchSize [] entry)
+
+-- ---- the services
+
+-- The chain at position i of the list of n; refused with r where i is not below the count.
+unfoldable pub standing : ℕ → ℕ → ℕ → Outcome
+standing r n i = pick (leb (count n) i) (refused r) (gives n (chainAt n i))
+
+-- Chain at a position: 6 past the count.
+unfoldable pub atPosition : ℕ → ℕ → Outcome
+atPosition n i = standing 6 n i
+
+-- Reading a word: 7 where it is not good, 10 where it stands for 2^64 or more.
+unfoldable pub ofWord : Word → Outcome
+ofWord w =
+    pick (reads true w)
+    (pick (ltb (weight w) (2 ^ 64)) (gives (weight w) (chainOf w)) (refused 10))
+    (refused 7)
+
+-- The chain after a chain c of n: 11 where c is the last.
+unfoldable pub after : ℕ → List Part → Outcome
+after n c = standing 11 n (position n c + 1)
+
+-- Next: what reading the word refuses, else the chain after the word's.
+unfoldable pub nextOf : Outcome → Outcome
+nextOf (refused r) = refused r
+nextOf (gives n c) = after n c
+
+-- A record by what it gets.
+unfoldable pub judgedAs : List ℕ → Judged → Outcome
+judgedAs l (judged.Sum n) = gives n (recordParts l)
+judgedAs l (judged.Refused r) = refused r
+
+-- Reading a record: 8, 9, 10, else its chain.
+unfoldable pub ofRecord : List ℕ → Outcome
+ofRecord l = judgedAs l (judgedOf l)
+
+-- What reading a record tells: n and position. It is lent no places.
+unfoldable pub placedOf : Outcome → Placed
+placedOf (refused r) = placed.Refused r
+placedOf (gives n c) = placed.At n (position n c)
+
+unfoldable pub lentScratch : List ℕ → Outcome → Outcome
+lentScratch scratch o = pick (ltb (length scratch) scratchSize) (refused 1) o

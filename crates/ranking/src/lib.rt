@@ -1,0 +1,112 @@
+// Finding a chain or its place in the list of n, on a lent scratch.
+mod tables;
+mod walks;
+
+use words::Parted;
+use words::Weighed;
+use words::Written;
+ghost use mathlib.Core.Path.{_≡_};
+ghost use lib.Dec.{ltb};
+ghost use lib.ListN.{length};
+ghost use Rattle.grid.specs.Grid.{scratchSize};
+ghost use Rattle.ranking.specs.Services.{lent, tooLittle, answerOf, placesLeft, scratchLeft, atPosition, ofWord, nextOf, ofRecord, placedOf, lentScratch};
+
+// Where a record's chain stands, or the refusal.
+pub enum Placed {
+    At { n: u64, position: u64 },
+    Refused(u8),
+}
+
+// A chain that was found, its parts in the places, or the refusal.
+pub enum Found {
+    Chain { n: u64, position: u64, k: u64 },
+    Refused(u8),
+}
+
+// Reading a record: n and position of the chain whose part numbers are `numbers`, largest part first.
+// Refuses with 1, 8, 9, 10 in that order.
+pub fn read_record(numbers: &[u16], scratch: &mut [u64]) -> Placed
+    ensures answer { λ r. ⌜ r ≡ placedOf (lentScratch (now (scratch .entry)) (ofRecord (now (numbers .entry)))) ⌝ }
+    ensures scratch { λ _. ⌜ now (scratch .exit) ≡ scratchLeft (ltb (length (now (scratch .entry))) scratchSize) (now (scratch .entry)) ⌝ }
+{
+    if scratch.len() < 5248 {
+        return Placed::Refused(1);
+    }
+    let mut letters = [0u8; 64];
+    match words::write_word(numbers, &mut letters) {
+        Written::Letters(k) => {
+            let length = k as usize;
+            tables::place_word(&letters[0..length], scratch)
+        }
+        Written::Refused(number) => {
+            tables::clear(scratch);
+            Placed::Refused(number)
+        }
+    }
+}
+
+// Reading a word: n, position and number of parts of its chain; the part numbers in the places. Refuses with 1, 7, 10 in that order.
+pub fn read_word(letters: &[u8], scratch: &mut [u64], places: &mut [u16]) -> Found
+    ensures answer { λ r. ⌜ r ≡ answerOf (lent (now (scratch .entry)) (now (places .entry)) (ofWord (now (letters .entry)))) ⌝ }
+    ensures places { λ _. ⌜ now (places .exit)
+        ≡ placesLeft (lent (now (scratch .entry)) (now (places .entry)) (ofWord (now (letters .entry)))) (now (places .entry)) ⌝ }
+    ensures scratch { λ _. ⌜ now (scratch .exit) ≡ scratchLeft (tooLittle (now (scratch .entry)) (now (places .entry))) (now (scratch .entry)) ⌝ }
+{
+    if scratch.len() < 5248 {
+        return Found::Refused(1);
+    }
+    if places.len() < 64 {
+        return Found::Refused(1);
+    }
+    match words::word_parts(letters, places) {
+        Parted::Chain { n, k } => {
+            let position = tables::position_of(n, letters, scratch);
+            Found::Chain { n, position, k }
+        }
+        Parted::Refused(number) => {
+            tables::clear(scratch);
+            Found::Refused(number)
+        }
+    }
+}
+
+// The chain at a position of the list of n, from 0; the part numbers in the places. Refuses with 1, and with 6 past the count.
+pub fn chain_at(n: u64, position: u64, scratch: &mut [u64], places: &mut [u16]) -> Found
+    ensures answer { λ r. ⌜ r ≡ answerOf (lent (now (scratch .entry)) (now (places .entry)) (atPosition n position)) ⌝ }
+    ensures places { λ _. ⌜ now (places .exit)
+        ≡ placesLeft (lent (now (scratch .entry)) (now (places .entry)) (atPosition n position)) (now (places .entry)) ⌝ }
+    ensures scratch { λ _. ⌜ now (scratch .exit) ≡ scratchLeft (tooLittle (now (scratch .entry)) (now (places .entry))) (now (scratch .entry)) ⌝ }
+{
+    if places.len() < 64 {
+        return Found::Refused(1);
+    }
+    if !counting::fill_counts(n, scratch) {
+        return Found::Refused(1);
+    }
+    tables::give_at(n, position, 6, scratch, places)
+}
+
+// The chain after a word's in its list; the part numbers in the places. Refuses with 1, 7, 10 in that order, then with 11 where the
+// word's chain is the last.
+pub fn next_chain(letters: &[u8], scratch: &mut [u64], places: &mut [u16]) -> Found
+    ensures answer { λ r. ⌜ r ≡ answerOf (lent (now (scratch .entry)) (now (places .entry)) (nextOf (ofWord (now (letters .entry))))) ⌝ }
+    ensures places { λ _. ⌜ now (places .exit)
+        ≡ placesLeft (lent (now (scratch .entry)) (now (places .entry)) (nextOf (ofWord (now (letters .entry))))) (now (places .entry)) ⌝ }
+    ensures scratch { λ _. ⌜ now (scratch .exit) ≡ scratchLeft (tooLittle (now (scratch .entry)) (now (places .entry))) (now (scratch .entry)) ⌝ }
+{
+    if scratch.len() < 5248 {
+        return Found::Refused(1);
+    }
+    if places.len() < 64 {
+        return Found::Refused(1);
+    }
+    if !words::is_good(letters) {
+        tables::clear(scratch);
+        return Found::Refused(7);
+    }
+    let Weighed::Number(n) = words::weigh(letters) else {
+        tables::clear(scratch);
+        return Found::Refused(10);
+    };
+    tables::give_after(n, letters, scratch, places)
+}

@@ -1,0 +1,137 @@
+// The two walks over a count table: from a word to its position, and from a position to its word. A walk goes along the letters of
+// a word, from the point (0, 0) up; the next letter's index is a + b. Where b rises, the words with a rise of a there stand before.
+ghost use mathlib.Core.Path.{_≡_};
+ghost use mathlib.Core.Bool.{false};
+ghost use Prim.Native.Nat.{_+_, _/_, _≤_, _<_};
+ghost use lib.ListN.{length, take};
+ghost use Rattle.chains.specs.Listing.{listOf, count, countBefore};
+ghost use Rattle.chains.specs.Counts.{ways};
+ghost use Rattle.ranking.specs.Walks.{restAt, Tabled, Between, RankStart, RankStep, RankWalked, WordStart, WordStep, WordRisen, WordFound};
+
+// The count of n. The table has 0 for the number 0, which has one chain, the empty one.
+pub fn count_in(n: u64, scratch: &[u64]) -> u64
+    requires { ⌜ Tabled n (now scratch) ⌝ }
+    ensures { λ r. ⌜ r ≡ count n ⌝ }
+{
+    if n == 0 {
+        return 1;
+    }
+    scratch[0]
+}
+
+// How many words begin with a rise of a at the point (a, b): the number in the next column.
+fn rising_a(n: u64, a: usize, b: usize, scratch: &[u64]) -> u64
+    requires { ⌜ Tabled n (now scratch) ⌝ }
+    requires { ⌜ Between n a b ⌝ }
+    ensures { λ r. ⌜ r ≡ ways false (restAt n a b / 2) ⌝ }
+{
+    scratch[128 * b + 2 * a + 3]
+}
+
+// A walk along a word: the point, and how many words stand before by the letters passed.
+pub struct RankWalk {
+    pub a: usize,
+    pub b: usize,
+    pub before: u64,
+}
+
+// One letter of the walk along a word.
+fn rank_step(n: u64, letters: &[u8], scratch: &[u64], w: RankWalk) -> RankWalk
+    requires { ⌜ RankStep n (now letters) (now scratch) (w .a) (w .b) (w .before) ⌝ }
+    ensures { λ r. ⌜ RankWalked n (now (letters .entry)) (r .a) (r .b) (r .before) × (r .a + r .b ≡ w .a + w .b + 1) ⌝ }
+{
+    let a = w.a;
+    let b = w.b;
+    let at = a + b;
+    if letters[at] <= 1 {
+        return RankWalk {
+            a: a + 1,
+            b,
+            before: w.before,
+        };
+    }
+    let rising = rising_a(n, a, b, scratch);
+    RankWalk {
+        a,
+        b: b + 1,
+        before: w.before + rising,
+    }
+}
+
+// The position in the list of n of a word that stands there.
+pub fn rank_of(n: u64, letters: &[u8], scratch: &[u64]) -> u64
+    requires { ⌜ RankStart n (now letters) (now scratch) ⌝ }
+    ensures { λ r. ⌜ r ≡ countBefore (now (letters .entry)) (listOf n) ⌝ }
+{
+    let mut w = RankWalk {
+        a: 0,
+        b: 0,
+        before: 0,
+    };
+    while w.a + w.b + 1 < letters.len() {
+        w = rank_step(n, letters, scratch, w);
+    }
+    w.before
+}
+
+// A walk along the word at a position: the point, what is left of n there, the position left, and the letter passed last.
+pub struct WordWalk {
+    pub a: usize,
+    pub b: usize,
+    pub rest: u64,
+    pub left: u64,
+    pub letter: u8,
+}
+
+// One letter of the walk along the word at the position i: a rises while the position left is below the words with a rise of a.
+fn word_step(n: u64, i: u64, scratch: &[u64], w: WordWalk) -> WordWalk
+    requires { ⌜ WordStep n i (now scratch) (w .a) (w .b) (w .rest) (w .left) ⌝ }
+    ensures { λ r. ⌜ WordRisen n i (w .a) (w .b) (r .letter) (r .a) (r .b) (r .rest) (r .left) ⌝ }
+{
+    let a = w.a;
+    let b = w.b;
+    let rest = w.rest;
+    let left = w.left;
+    let rising = rising_a(n, a, b, scratch);
+    if left < rising {
+        return WordWalk {
+            a: a + 1,
+            b,
+            rest: rest / 2,
+            left,
+            letter: (rest % 2) as u8,
+        };
+    }
+    WordWalk {
+        a,
+        b: b + 1,
+        rest: rest / 3,
+        left: left - rising,
+        letter: (2 + rest % 3) as u8,
+    }
+}
+
+// Writes the word at the position i of the list of n, and tells its length.
+pub fn word_at(n: u64, i: u64, scratch: &[u64], letters: &mut [u8]) -> usize
+    requires { ⌜ WordStart n i (now scratch) (now letters) ⌝ }
+    ensures { λ r. ⌜ WordFound n i r (now (letters .exit)) ⌝ }
+{
+    if n == 0 {
+        return 0;
+    }
+    let mut w = WordWalk {
+        a: 0,
+        b: 0,
+        rest: n,
+        left: i,
+        letter: 0,
+    };
+    while 1 < w.rest {
+        let at = w.a + w.b;
+        w = word_step(n, i, scratch, w);
+        letters[at] = w.letter;
+    }
+    let last = w.a + w.b;
+    letters[last] = 3;
+    last + 1
+}

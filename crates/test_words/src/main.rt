@@ -1,0 +1,332 @@
+// Prints what the services on words answer. First all words of up to five letters 0 to 4: a good one with its number, its parts and
+// its word written from them, any other not at all; then how any two good words of up to three letters compare; then words at the
+// edges and damaged ones, and records that are refused or just fit, each with the lent places, which hold 170 at entry.
+use libc::STDOUT_FILENO;
+use parts::Number;
+use words::Compared;
+use words::Judged;
+use words::Parted;
+use words::Weighed;
+use words::Written;
+ghost use mathlib.Core.Path.{_≡_};
+ghost use Prim.Native.Nat.{_≤_, _<_};
+ghost use lib.ListN.{length};
+
+fn text(bytes: &[u8]) {
+    io::write_all(STDOUT_FILENO, bytes);
+}
+
+fn print(n: u64) {
+    text(b" ");
+    io::print_decimal(STDOUT_FILENO, n);
+}
+
+fn wide(x: u8) -> u64 {
+    x as u64
+}
+
+fn print_bytes(bytes: &[u8]) {
+    for i in 0..bytes.len() {
+        print(wide(bytes[i]));
+    }
+}
+
+fn wide_number(x: u16) -> u64 {
+    x as u64
+}
+
+fn print_numbers(numbers: &[u16]) {
+    for i in 0..numbers.len() {
+        print(wide_number(numbers[i]));
+    }
+}
+
+// ---- words of few letters
+
+// A word of up to five letters: those from `from` on.
+struct Spelled {
+    letters: [u8; 5],
+    from: usize,
+}
+
+// The words of letters 0 to 4 in the order of their lengths, the empty one first.
+fn spell(index: u64) -> Spelled
+    ensures { λ r. ⌜ (r .from ≤ 5) × (length (r .letters) ≡ 5) ⌝ }
+{
+    let mut letters = [0u8; 5];
+    let mut rest = index;
+    let mut from = 5;
+    while 0 < from {
+        if rest == 0 {
+            return Spelled { letters, from };
+        }
+        from -= 1;
+        letters[from] = ((rest - 1) % 5) as u8;
+        rest = (rest - 1) / 5;
+    }
+    Spelled { letters, from }
+}
+
+// The record again as a word.
+fn print_written(numbers: &[u16]) {
+    let mut places = [170u8; 64];
+    match words::write_word(numbers, &mut places) {
+        Written::Letters(k) => {
+            let end = k as usize;
+            if end <= 64 {
+                print_bytes(&places[0..end]);
+            }
+        }
+        Written::Refused(number) => print(wide(number)),
+    }
+}
+
+// A good word's number, how many parts it has, their numbers, and the word written from them.
+fn print_parts(word: &[u8]) {
+    let mut places = [170u16; 64];
+    match words::word_parts(word, &mut places) {
+        Parted::Chain { n, k } => {
+            print(n);
+            print(k);
+            let end = k as usize;
+            if end <= 64 {
+                text(b" :");
+                print_numbers(&places[0..end]);
+                text(b" :");
+                print_written(&places[0..end]);
+            }
+        }
+        Parted::Refused(number) => print(wide(number)),
+    }
+}
+
+fn print_word(index: u64) {
+    let w = spell(index);
+    let from = w.from;
+    let letters = w.letters;
+    let word = &letters[from..5];
+    if words::is_good(word) {
+        print_bytes(word);
+        text(b" :");
+        print_parts(word);
+        text(b"\n");
+    }
+}
+
+fn print_words() {
+    for index in 0..3906 {
+        print_word(index);
+    }
+}
+
+// ---- pairs of words
+
+fn print_compared(u: &[u8], v: &[u8]) {
+    match words::compare_words(u, v) {
+        Compared::Earlier => text(b" <"),
+        Compared::Same => text(b" ="),
+        Compared::Later => text(b" >"),
+        Compared::Refused(number) => print(wide(number)),
+    }
+}
+
+fn print_pair(u: &[u8], j: u64) {
+    let v = spell(j);
+    let from = v.from;
+    let letters = v.letters;
+    let word = &letters[from..5];
+    if words::is_good(word) {
+        print_compared(u, word);
+    }
+}
+
+fn print_row(u: &[u8]) {
+    if words::is_good(u) {
+        for j in 0..156 {
+            print_pair(u, j);
+        }
+        text(b"\n");
+    }
+}
+
+fn print_pairs(i: u64) {
+    let u = spell(i);
+    let from = u.from;
+    let letters = u.letters;
+    print_row(&letters[from..5]);
+}
+
+fn print_rows() {
+    for i in 0..156 {
+        print_pairs(i);
+    }
+}
+
+// ---- words at the edges, and damaged ones
+
+fn print_weight(word: &[u8]) {
+    match words::weigh(word) {
+        Weighed::Number(n) => print(n),
+        Weighed::Over => text(b" over"),
+    }
+}
+
+fn print_parted(answer: Parted) {
+    match answer {
+        Parted::Chain { n, k } => {
+            print(n);
+            print(k);
+        }
+        Parted::Refused(number) => {
+            text(b" refused");
+            print(wide(number));
+        }
+    }
+    text(b" :");
+}
+
+fn show_word(word: &[u8]) {
+    if words::is_good(word) {
+        text(b"good");
+    } else {
+        text(b"bad");
+    }
+    print_weight(word);
+    let mut places = [170u16; 66];
+    print_parted(words::word_parts(word, &mut places));
+    print_numbers(&places);
+    let mut few = [170u16; 63];
+    print_parted(words::word_parts(word, &mut few));
+    print_numbers(&few);
+    text(b"\n");
+}
+
+// A letter, `count` times, and then a 3.
+fn show_long(letter: u8, count: usize)
+    requires { ⌜ count < 255 ⌝ }
+{
+    let mut word = [letter; 255];
+    word[count] = 3;
+    show_word(&word[0..count + 1]);
+}
+
+fn show_words() {
+    show_long(0, 63);
+    show_long(0, 64);
+    show_long(1, 63);
+    show_long(1, 64);
+    show_long(2, 40);
+    show_long(2, 41);
+    show_long(3, 40);
+    show_long(3, 41);
+    show_long(0, 254);
+    show_long(1, 254);
+    show_long(2, 254);
+    show_long(3, 254);
+    show_long(4, 2);
+    show_long(255, 2);
+}
+
+fn show_damaged() {
+    let letters = [3u8, 0, 3, 4, 3, 2, 0, 2, 3, 255];
+    show_word(&letters[0..0]);
+    show_word(&letters[0..1]);
+    show_word(&letters[0..2]);
+    show_word(&letters[0..3]);
+    show_word(&letters[2..5]);
+    show_word(&letters[4..6]);
+    show_word(&letters[5..9]);
+    show_word(&letters[7..9]);
+    show_word(&letters[8..10]);
+}
+
+// A good word and one that is not, in each order, and the latter with itself.
+fn show_refused() {
+    let good = [3u8];
+    let bad = [2u8];
+    print_compared(&good, &bad);
+    print_compared(&bad, &good);
+    print_compared(&bad, &bad);
+    text(b"\n");
+}
+
+// ---- records
+
+fn print_answer(answer: Written) {
+    match answer {
+        Written::Letters(k) => print(k),
+        Written::Refused(number) => {
+            text(b" refused");
+            print(wide(number));
+        }
+    }
+    text(b" :");
+}
+
+fn show_record(numbers: &[u16]) {
+    match words::judge_record(numbers) {
+        Judged::Sum(n) => print(n),
+        Judged::Refused(number) => {
+            text(b" refused");
+            print(wide(number));
+        }
+    }
+    let mut places = [170u8; 66];
+    print_answer(words::write_word(numbers, &mut places));
+    print_bytes(&places);
+    let mut few = [170u8; 63];
+    print_answer(words::write_word(numbers, &mut few));
+    print_bytes(&few);
+    text(b"\n");
+}
+
+// A part's number; a number past the table where it has none.
+fn number(a: u64, b: u64) -> u16 {
+    match parts::number_of(a, b) {
+        Number::At(number) => number,
+        Number::None => 1344,
+    }
+}
+
+// 2^a × 3^b and 2^c × 3^d.
+fn show_pair(a: u64, b: u64, c: u64, d: u64) {
+    let numbers = [number(a, b), number(c, d)];
+    show_record(&numbers);
+}
+
+// The 64 powers of 2, largest first, and 1 once more.
+fn powers() -> [u16; 65] {
+    let mut numbers = [0u16; 65];
+    for i in 0..64 {
+        numbers[i] = number((63 - i) as u64, 0);
+    }
+    numbers
+}
+
+fn show_records() {
+    let numbers = powers();
+    show_record(&numbers[0..0]);
+    show_record(&numbers[63..64]);
+    show_record(&numbers[0..64]);
+    show_record(&numbers);
+    show_pair(64, 0, 0, 0);
+    show_pair(0, 0, 64, 0);
+    show_pair(1, 2, 0, 0);
+    show_pair(0, 0, 1, 0);
+    show_pair(3, 1, 3, 1);
+    show_pair(1, 1, 2, 0);
+    show_pair(0, 40, 0, 0);
+    show_pair(62, 1, 61, 0);
+    show_pair(62, 1, 62, 0);
+    show_pair(62, 1, 61, 1);
+    show_pair(63, 0, 62, 1);
+}
+
+fn main() {
+    print_words();
+    print_rows();
+    show_words();
+    show_damaged();
+    show_refused();
+    show_records();
+}
