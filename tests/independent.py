@@ -409,6 +409,100 @@ def test_words():
         yield judged(numbers) + told_of_record(numbers, 66) + told_of_record(numbers, 63)
 
 
+# ---- the services that find a chain or its place
+
+
+def digest(numbers):
+    value = 0
+    for x in numbers:
+        value = (value * 1361 + x + 1) % 1000000007
+    return value
+
+
+def digest_64(numbers):
+    return digest(numbers + [0] * (64 - len(numbers)))
+
+
+def parts_line(chain):
+    """How many parts, and a digest of the 64 places."""
+    return f"{len(chain)} {digest_64([NUMBER[p] for p in chain])}"
+
+
+def position_line(n, position):
+    """What the chain at a position, its word, reading both, its record and the next chain answer."""
+    if position >= count(n):
+        return "6"
+    word = word_at(n, position)
+    chain = chain_of(word)
+    assert sum_of(chain) == n and word_of(chain) == word and position_of(word) == position
+    after = parts_line(chain_of(word_at(n, position + 1))) if position + 1 < count(n) else "11"
+    letters = [int(l) for l in word]
+    return f"{n} {position} {parts_line(chain)} {len(word)} {digest_64(letters)} = = {after} "
+
+
+def ends_line(letters):
+    """Reading a word and asking for the next chain, in full."""
+    word = text_of(letters)
+    chain = chain_of(word)
+    n = sum_of(chain)
+    if not good(word):
+        return "7 7 "
+    if n >= LIMIT:
+        return "10 10 "
+    position = position_of(word)
+    first = f"{n} {position} {parts_line(chain)} "
+    if position + 1 == count(n):
+        return first + "11 "
+    return first + f"{n} {position + 1} {parts_line(chain_of(word_at(n, position + 1)))} "
+
+
+def record_line(numbers):
+    """Reading a record, asked whether it is 0 at position 0."""
+    reply = reply_to_record(numbers)
+    if len(reply) == 2:
+        return f"{int(reply, 16)} "
+    chain = [TABLE[i] for i in numbers]
+    place = (sum_of(chain), position_of(word_of(chain)))
+    return "= " if place == (0, 0) else "%d %d " % place
+
+
+def shifts(times):
+    """Numbers from a generator by shifts."""
+    x = 88172645463325252
+    for _ in range(times):
+        x ^= (x << 13) % LIMIT
+        x ^= x >> 7
+        x ^= (x << 17) % LIMIT
+        yield x
+
+
+@what
+def test_ranking():
+    for n in range(301):
+        for position in range(count(n) + 1):
+            yield position_line(n, position)
+    powers = [2**a for a in range(64)] + [3**b for b in range(41)]
+    numbers = [LIMIT - 1, 3 * 2**62 - 1, (2**36 * 3**19 - 27) // 5]
+    numbers += [n for power in powers for n in (power - 1, power, power + 1)] + list(shifts(300))
+    for n in numbers:
+        last = count(n) - 1
+        for position in (0, last, last // 2, last + 1):
+            yield position_line(n, position)
+    for letters in ([], [0], [2], [4], [0, 2, 3], [1, 2, 3], [1, 3, 2]):
+        yield ends_line(letters)
+    for letter, times in ((0, 63), (0, 64), (2, 40), (2, 41), (1, 63), (1, 64)):
+        yield ends_line([letter] * times + [3])
+    for record in ([], [1343], [1344], [0, 1344], [0, 0], [0, 1], [NUMBER[62, 1], NUMBER[61, 1]], [NUMBER[63, 0], NUMBER[62, 0]]):
+        yield record_line(record)
+    twos = [NUMBER[a, 0] for a in range(63, -1, -1)]
+    yield record_line(twos)
+    yield record_line(twos + [0])
+    # too small a scratch: three services, then the record; too few places: three services
+    yield "1 1 1 "
+    yield "1"
+    yield "1 1 1 "
+
+
 SPECIAL = [65535, 65536, 10**6, 2**32 - 1, 2**32, 10**18, 3**19 - 1, 3**19, 3**19 + 1, 2**30 * 3**19, 2**62 - 1, 2**62]
 SPECIAL += [2**63 - 1, 2**63, 2**63 + 1, 3**40 - 1, 3**40, 3**40 + 1, 3 * 2**62 - 1, 3 * 2**62, (2**36 * 3**19 - 27) // 5]
 SPECIAL += [3**34 * 1000, 2**64 - 2, 2**64 - 1]

@@ -1,8 +1,8 @@
 -- The table of counts. A cell holds how many words its reader can go on with at its rest, and 0 where the rest is 0.
 --
--- In this order: the meaning of a cell, and what filling the table leaves in the scratch; what the steps of a row ask; that one row
--- step serves every row; each cell from the one right of it and the one above it, with no choice on the remainder; the count of n
--- in a table.
+-- In this order: the meaning of a cell, and what filling the table leaves in the scratch; what the live columns of a row ask; that
+-- one row step serves every row; each cell from the one right of it and the one above it, with no choice on the remainder; the
+-- count of n in a table.
 use mathlib.Core.Path.{_≡_, refl, _∙_}
 use mathlib.Core.Bool.{Bool, true, false}
 use mathlib.Core.List.{List}
@@ -36,15 +36,6 @@ countCell a b f m = waysIn f m
 -- The scratch holds the table of n, and what stands behind it is as it was at entry.
 abbrev pub CountsIn : ℕ → List ℕ → List ℕ → Type 0
 CountsIn n entry exit = RowsFilled countCell 0 n entry exit
-
--- What a cell is made from, where its rest is 2 or more: the number of the reader after a has risen in the column right of it,
--- where the rest is half of it, and that of the free reader in the row above, where it is a third.
-pub record CellAsked (rest third right above : ℕ) : Type 0 where
-  pub live : 2 ≤ rest
-  pub fits : rest < 2 ^ 64
-  pub at-third : third ≡ rest / 3
-  pub at-right : right ≡ waysIn false (rest / 2)
-  pub at-above : above ≡ waysIn true third
 
 -- What the columns below `top` of a row ask: the part, in which the columns from `top` on are filled; the rest at `top` is 1.
 pub record LiveAsked (m q top : ℕ) (part : List ℕ) : Type 0 where

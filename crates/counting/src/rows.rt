@@ -2,15 +2,15 @@
 // there by one row step.
 //
 // A row is filled from its last column down, each cell from the one right of it and the one above it. The rest of column a is
-// m >> a, its third q >> a, where m and q are the rests of the first columns of the row and of the row above, so no cell is divided,
-// and the remainder by three makes a factor and no branch. A row is 128 numbers: 64 columns of two.
+// m >> a, its third q >> a, where m and q are the rests of the first columns of the row and of the row above. Two masks, made once
+// a row, hold the remainders by three of all its rests, so no cell is divided, and a bit of a mask makes a factor and no branch. A
+// row is 128 numbers: 64 columns of two.
 ghost use mathlib.Core.Path.{_≡_};
-ghost use mathlib.Core.Bool.{true, false};
 ghost use Prim.Native.Nat.{_+_, _*_, _^_, _≤_, _<_};
 ghost use lib.ListN.{length};
 ghost use Rattle.chains.specs.Listing.{count};
 ghost use Rattle.grid.specs.Grid.{Table, RowAsked, RowFilled, RowsAsked, RowsFilled};
-ghost use Rattle.counting.specs.Table.{waysIn, countCell, CellAsked, LiveAsked};
+ghost use Rattle.counting.specs.Table.{countCell, LiveAsked};
 
 // How many columns of a row are live, where m is the rest of its first column: as many as m has bits.
 fn live_columns(m: u64) -> usize
@@ -32,37 +32,27 @@ fn clear_dead(part: &mut [u64], m: u64, live: usize)
     }
 }
 
-// The two numbers of a cell: that of the free reader, and that of the reader after a has risen.
-struct Cell {
-    free: u64,
-    risen: u64,
-}
-
-// A cell from the one right of it and the one above it. The remainder by three is 0, 1 or 2: the number above counts for both
-// readers where it is 1, and where it is 0 for the free reader alone.
-fn cell_from(rest: u64, third: u64, right: u64, above: u64) -> Cell
-    requires { ⌜ CellAsked rest third right above ⌝ }
-    ensures { λ r. ⌜ (r .free ≡ waysIn true rest) × (r .risen ≡ waysIn false rest) ⌝ }
-{
-    let rem = rest - 3 * third;
-    let risen = right + above * (rem % 2);
-    let free = risen + above * ((2 - rem) / 2);
-    Cell { free, risen }
-}
-
-// The live columns below `top`, from there down.
+// The live columns below `top`, from there down. The number above counts for both readers where the remainder by three of the
+// column's rest is 1, and where it is 0 for the free reader alone.
+//
+// Bit a of `ones` is 1 where the remainder in column a is 1: the rest is three times its third and the remainder, so the last bits
+// of rest and third differ where the remainder is odd. Bit a of `zeros` is 1 where it is 0: the rest is twice the rest right of it
+// and bit a of m, so where the remainder is not 1, it is 0 if bit a + 1 of `ones` and bit a of m are the same, and 2 if they
+// differ.
 fn fill_live(part: &mut [u64], m: u64, q: u64, top: usize)
     requires { ⌜ LiveAsked m q top (now part) ⌝ }
     ensures { λ _. ⌜ RowFilled countCell 0 m 0 (now (part .entry)) (now (part .exit)) ⌝ }
 {
+    let ones = m ^ q;
+    let zeros = !(ones | ((ones >> 1) ^ m));
     let mut right = 1;
     let mut a = top;
     while 0 < a {
         a -= 1;
-        let c = cell_from(m >> a, q >> a, right, part[128 + 2 * a]);
-        right = c.risen;
+        let above = part[128 + 2 * a];
+        right += above * ((ones >> a) % 2);
         part[2 * a + 1] = right;
-        part[2 * a] = c.free;
+        part[2 * a] = right + above * ((zeros >> a) % 2);
     }
 }
 

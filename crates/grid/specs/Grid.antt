@@ -4,7 +4,7 @@
 --
 -- What a cell means is a function of its point, its reader and its rest. The rest at (a, b) is n / 3^b / 2^a.
 -- Definitions only: rows and tables that are right, then what the calls that fill them ask and leave. The laws by which a row and a
--- table are filled and read are in Fill, those of rests in Rests.
+-- table are filled and read are in Fill, those of rests in Rests, those of their remainders by three in Masks.
 use mathlib.Core.Path.{_≡_}
 use mathlib.Core.Bool.{Bool, true, false}
 use mathlib.Core.List.{List}

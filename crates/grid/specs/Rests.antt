@@ -1,10 +1,10 @@
 -- Arithmetic of rests. In the row whose first column has the rest m, the rest of column a is m / 2^a; in the row above it, whose
 -- first column has the rest m / 3, it is m / 3 / 2^a.
 --
--- In this order: the half, the third and the remainder of a rest, which stand in the next column and in the row above; the columns
--- whose rest is 0, and the last one whose rest is not; the bound on the rest of a row.
+-- In this order: the half and the third of a rest, which stand in the next column and in the row above; the columns whose rest is
+-- 0, and the last one whose rest is not; the bound on the rest of a row. The remainders by three are in Masks.
 use mathlib.Core.Path.{_≡_, _∙_}
-use Prim.Native.Nat.{ℕ, suc, _-_, _*_, _^_, _/_, _%_, _≤_, _<_}
+use Prim.Native.Nat.{ℕ, suc, _*_, _^_, _/_, _≤_, _<_}
 use native.Mathlib.Nat.{
   div-div-eq-div-mul,
   div-eq-of-lt,
@@ -27,9 +27,6 @@ half-of-rest m a = shr-shr m a 1 ∙ rw add-one
 
 pub third-of-rest : (m a : ℕ) → m / 3 / 2 ^ a ≡ m / 2 ^ a / 3
 third-of-rest m a = rw (div-div-eq-div-mul m 3 (2 ^ a), div-div-eq-div-mul m (2 ^ a) 3, mul-comm 3 (2 ^ a))
-
-pub remainder-of-rest : (m a : ℕ) → m / 2 ^ a - 3 * (m / 3 / 2 ^ a) ≡ m / 2 ^ a % 3
-remainder-of-rest m a = rw third-of-rest (omega arith)
 
 pub third-of-row : (m i : ℕ) → m / 3 / 3 ^ i ≡ m / 3 ^ suc i
 third-of-row m i = rw (div-div-eq-div-mul m 3 (3 ^ i), ← pow-succ' 3 i)

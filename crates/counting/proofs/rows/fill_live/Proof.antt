@@ -1,19 +1,23 @@
 -- `rows::fill_live` meets its contract. Each turn fills one column more from the one right of it, whose number for the reader after
--- a has risen is carried along, and from the row above, which no turn writes to.
+-- a has risen is carried along, and from the row above, which no turn writes to. The bits of the masks are the factors by which
+-- the number above counts or not. Each sum is a number of ways, which is at most the rest, so nothing wraps.
 use mathlib.Core.Path.{_≡_, refl, sym, _∙_}
 use mathlib.Core.List.{List}
 use mathlib.Core.Bool.{true, false}
-use Prim.Native.Nat.{ℕ, suc, _+_, _*_, _^_, _/_, _-_, _≤_, _<_}
+use Prim.Native.Nat.{ℕ, suc, _+_, _*_, _^_, _/_, _%_, _-_, _≤_, _<_}
 use native.Mathlib.Omega.{arith}
 use borrow.Author.Needs.{needs}
 use lib.ListN.{length, getD, set, length-set}
 use lib.Pow.{shr-le}
 use Rattle.grid.specs.Grid.{RowAsked, RowFilled}
 use Rattle.grid.specs.Rests.{half-of-rest, third-of-rest}
+use Rattle.grid.specs.Masks.{onesOf, zerosOf, ones-bit, zeros-bit}
 use Rattle.grid.specs.Fill.{column, asked-still, read-above}
-use Rattle.counting.specs.Table.{waysIn, countCell, LiveAsked, CellAsked, cell-at-1}
+use Rattle.counting.specs.Table.{waysIn, countCell, LiveAsked, cell-at-1, cell-at-most, cell-after-a, cell-free}
 use Rattle.counting.proofs.rows.fill_live.Statement.{statement}
 use Rattle.counting.proofs.rows.fill_live.Tie as tie
+use Rattle.counting.proofs.rows.fill_live.Reads as reads
+use Rattle.counting.proofs.rows.fill_live.Lts as lts
 
 -- The columns from a on are filled, and `right` is column a's number for the reader after a has risen.
 pub record Filling (m top : ℕ) (entry part : List ℕ) (right a : ℕ) : Type 0 where
@@ -31,9 +35,17 @@ begin p =
       carried = rw (p .at-top) (sym (cell-at-1 false));
     }
 
+-- The two numbers that a turn makes for column a.
+abbrev risenAt : ℕ → ℕ → List ℕ → ℕ → ℕ → ℕ
+risenAt m q part right a = right + getD part (128 + 2 * a) 0 * (onesOf m q / 2 ^ a % 2)
+
+abbrev freeAt : ℕ → ℕ → List ℕ → ℕ → ℕ → ℕ
+freeAt m q part right a =
+    risenAt m q part right a + getD part (128 + 2 * a) 0 * (zerosOf m q / 2 ^ a % 2)
+
 -- A turn, at the column left of a.
 module _ {m q top : ℕ} {entry part : List ℕ} {right a : ℕ} (p : LiveAsked m q top entry)
-    (f : Filling m top entry part right a) (h : 0 < a) where
+    (f : Filling m top entry part right a) (h : 0 < a) (fits : m < 2 ^ 64) where
   half : m / 2 ^ (a - 1) / 2 ≡ m / 2 ^ a
   half =
       let e : suc (a - 1) ≡ a = omega arith in
@@ -51,26 +63,33 @@ module _ {m q top : ℕ} {entry part : List ℕ} {right a : ℕ} (p : LiveAsked 
   within : 128 + 2 * (a - 1) < length part
   within = omega (arith, asked .room-above above-there, p .last, f .last)
 
-  made-from : m < 2 ^ 64 → CellAsked (m / 2 ^ (a - 1)) (q / 2 ^ (a - 1)) right (getD part (128 + 2 * (a - 1)) 0)
-  made-from fits =
-      record {
-        live = two;
-        fits = omega (arith, shr-le m (a - 1));
-        at-third = rw (p .asked .third) (third-of-rest m (a - 1));
-        at-right = f .carried ∙ rw half;
-        at-above = read-above countCell (a - 1) asked above-there (omega (arith, p .last, f .last));
-      }
+  above : getD part (128 + 2 * (a - 1)) 0 ≡ waysIn true (m / 2 ^ (a - 1) / 3)
+  above =
+      read-above countCell (a - 1) asked above-there (omega (arith, p .last, f .last))
+      ∙ rw (p .asked .third, third-of-rest m (a - 1))
 
-  next : (x y : ℕ) → (x ≡ waysIn true (m / 2 ^ (a - 1))) × (y ≡ waysIn false (m / 2 ^ (a - 1)))
-      → Filling m top entry (set (set part (2 * (a - 1) + 1) y) (2 * (a - 1)) x) y (a - 1)
-  next x y e =
+  risen : risenAt m q part right (a - 1) ≡ waysIn false (m / 2 ^ (a - 1))
+  risen = rw (f .carried, above, p .asked .third, ones-bit m (a - 1), ← half) (sym (cell-after-a (m / 2 ^ (a - 1)) two))
+
+  free : freeAt m q part right (a - 1) ≡ waysIn true (m / 2 ^ (a - 1))
+  free =
+      rw (risen, above, p .asked .third, zeros-bit m (a - 1) fits (omega (arith, p .last, f .last)))
+      (sym (cell-free (m / 2 ^ (a - 1)) two))
+
+  below : freeAt m q part right (a - 1) < 2 ^ 64
+  below = omega (arith, free, cell-at-most true (m / 2 ^ (a - 1)), shr-le m (a - 1))
+
+  next : Filling m top entry
+      (set (set part (2 * (a - 1) + 1) (risenAt m q part right (a - 1))) (2 * (a - 1)) (freeAt m q part right (a - 1)))
+      (risenAt m q part right (a - 1)) (a - 1)
+  next =
       record {
         filled =
-            column countCell 0 m (a - 1) a entry part x y (omega arith) (omega (arith, p .last, f .last)) (p .asked .room)
-            (e .0) (e .1) (f .filled);
+            column countCell 0 m (a - 1) a entry part (freeAt m q part right (a - 1)) (risenAt m q part right (a - 1)) (omega arith)
+            (omega (arith, p .last, f .last)) (p .asked .room) free risen (f .filled);
         last = omega (arith, f .last);
         live = omega (arith, two);
-        carried = e .1;
+        carried = risen;
       }
 
 end : {m top : ℕ} {entry part : List ℕ} {right a : ℕ} → Filling m top entry part right a → a ≤ 0
@@ -80,26 +99,28 @@ end {a = a} f h =
     rw e at (f .filled)
 
 abbrev Inv-loop : tie.InvT-loop
-Inv-loop part₀ m q top right₀ a₀ part right a = Filling m top part₀ part right a
+Inv-loop part₀ m q top ones zeros right₀ a₀ part right a = Filling m top part₀ part right a
 
 abbrev μ-loop : tie.MeasureT-loop
-μ-loop part₀ m q top right₀ a₀ part right a = a
+μ-loop part₀ m q top ones zeros right₀ a₀ part right a = a
+
+-- The larger of a turn's two sums.
+no-wrap : (c : lts.After-slice-known reads.Pre reads.Post Inv-loop μ-loop)
+    → freeAt (c .before .before .before .args .m) (c .before .before .before .args .q) (c .before .before .loop .part)
+    (c .before .before .loop .right) (c .before .before .loop .a - 1) < 2 ^ 64
+no-wrap c =
+    let at-loop = c .before .before in
+    below (at-loop .before .pre) (at-loop .loop .inv) (c .before .loop-test .taken) (search needs)
 
 loop-again : tie.Need-loop-again Inv-loop μ-loop
 loop-again c =
-    let at-loop = c .before .before .before in
-    next (at-loop .before .before .pre) (at-loop .loop .inv) (c .before .before .loop-test .taken) (c .cell-from .result .free)
-    (c .cell-from .result .risen) (c .cell-from .ensures)
-
-cell-from-requires : tie.Need-cell-from-requires Inv-loop μ-loop
-cell-from-requires c κs =
     let at-loop = c .before .before in
-    made-from (at-loop .before .before .pre) (at-loop .loop .inv) (c .before .loop-test .taken) (search needs)
+    next (at-loop .before .pre) (at-loop .loop .inv) (c .before .loop-test .taken) (search needs)
 
-slice-read-cell-from : tie.Need-slice-read-cell-from Inv-loop μ-loop
-slice-read-cell-from c =
+slice-read-above : tie.Need-slice-read-above Inv-loop μ-loop
+slice-read-above c =
     let at-loop = c .before .before in
-    within (at-loop .before .before .pre) (at-loop .loop .inv) (c .before .loop-test .taken)
+    within (at-loop .before .pre) (at-loop .loop .inv) (c .before .loop-test .taken) (search needs)
 
 pub fill-live-spec : {M : Type 1} → statement M
 fill-live-spec =
@@ -107,19 +128,22 @@ fill-live-spec =
     (tie.spec
     Inv-loop
     μ-loop
-    (λ c. begin (c .before .pre))
+    (λ c. begin (c .pre))
+    (λ c. search needs)
+    (λ c. search needs)
+    (λ c. search needs)
+    (λ c. search needs)
+    slice-read-above
+    (λ c. search needs)
+    (λ c. omega (arith, no-wrap c))
+    (λ c. omega (arith, no-wrap c))
     (λ c. search needs)
     (λ c. search needs)
     (λ c. search needs)
     (λ c. search needs)
     (λ c. search needs)
-    (λ c. search needs)
-    slice-read-cell-from
-    cell-from-requires
-    (λ c. search needs)
-    (λ c. search needs)
-    (λ c. search needs)
-    (λ c. search needs)
+    (λ c. omega (arith, no-wrap c))
+    (λ c. omega (arith, no-wrap c))
     (λ c. search needs)
     (λ c. search needs)
     (λ c. simp length-set (omega arith))

@@ -1,0 +1,503 @@
+// Every position of the numbers to 300, and some positions of 64-bit numbers: the chain there, its word, and what reading the word,
+// reading the record and asking for the next chain answer.
+//
+// A line has n, the position, how many parts, a digest of the 64 places, how many letters and a digest of the 64 letters; then = where
+// reading the word gives the same, and = where reading the record tells the same n and position; then how many parts the next chain
+// has and a digest of its places, where it is the chain of n at the next position, or the refusal. A refused position has its number
+// alone. Whatever else comes is printed in full. The scratch is full of ones at each call, of 5,248 numbers or of 6,000; a line
+// ends in ! where it, or the places past the 64th, are not left as they should be.
+use counting::Counted;
+use libc::STDOUT_FILENO;
+use parts::Number;
+use ranking::Found;
+use ranking::Placed;
+use words::Written;
+ghost use mathlib.Core.Path.{_≡_};
+ghost use Prim.Native.Nat.{_≤_, _<_};
+ghost use lib.ListN.{length};
+
+fn print(n: u64) {
+    io::print_decimal(STDOUT_FILENO, n);
+}
+
+fn text(t: &[u8]) {
+    io::write_all(STDOUT_FILENO, t);
+}
+
+// ---- memory
+
+fn full_scratch() -> [u64; 6000]
+    ensures { λ r. ⌜ 6000 ≡ length r ⌝ }
+{
+    [u64::MAX; 6000]
+}
+
+fn full_places() -> [u16; 70]
+    ensures { λ r. ⌜ 70 ≡ length r ⌝ }
+{
+    [u16::MAX; 70]
+}
+
+// How much of the scratch is lent.
+fn lent(n: u64) -> usize
+    ensures { λ r. ⌜ r ≤ 6000 ⌝ }
+{
+    if n % 2 == 0 { 5248 } else { 6000 }
+}
+
+// The first `count` are zero, and the rest is as it was.
+fn is_left(scratch: &[u64], count: usize) -> bool {
+    let mut i = 0;
+    while i < scratch.len() {
+        let expected = if i < count { 0 } else { u64::MAX };
+        if scratch[i] != expected {
+            return false;
+        }
+        i += 1;
+    }
+    true
+}
+
+// The places from `start` on are as they were.
+fn is_kept(places: &[u16], start: usize) -> bool {
+    let mut i = start;
+    while i < places.len() {
+        if places[i] != u16::MAX {
+            return false;
+        }
+        i += 1;
+    }
+    true
+}
+
+fn mark(right: bool) {
+    if !right {
+        text(b"!");
+    }
+}
+
+// ---- digests
+
+// One number more.
+fn digest_with(digest: u64, x: u64) -> u64
+    requires { ⌜ digest < 1000000007 ⌝ }
+    requires { ⌜ x < 65536 ⌝ }
+    ensures { λ r. ⌜ r < 1000000007 ⌝ }
+{
+    (digest * 1361 + x + 1) % 1000000007
+}
+
+// A digest of the first 64 numbers in their order.
+fn digest_of(numbers: &[u16]) -> u64 {
+    let mut digest = 0;
+    let mut i = 0;
+    while i < numbers.len() {
+        if i == 64 {
+            return digest;
+        }
+        digest = digest_with(digest, numbers[i] as u64);
+        i += 1;
+    }
+    digest
+}
+
+fn digest_letters(letters: &[u8]) -> u64 {
+    let mut digest = 0;
+    let mut i = 0;
+    while i < letters.len() {
+        digest = digest_with(digest, letters[i] as u64);
+        i += 1;
+    }
+    digest
+}
+
+// At most 64 of what is lent.
+fn first(k: u64) -> usize
+    ensures { λ r. ⌜ r ≤ 64 ⌝ }
+{
+    if k < 64 { k as usize } else { 64 }
+}
+
+// ---- one call of each service
+
+// What a service gave and left in the places, and whether the memory is as it should be.
+struct Given {
+    found: Found,
+    places: [u16; 70],
+    right: bool,
+}
+
+fn given_at(n: u64, position: u64, scratch: &mut [u64]) -> Given {
+    let mut places = full_places();
+    let found = ranking::chain_at(n, position, scratch, &mut places);
+    let right = is_left(scratch, 5248) & is_kept(&places, 64);
+    Given {
+        found,
+        places,
+        right,
+    }
+}
+
+fn given_word(letters: &[u8], scratch: &mut [u64]) -> Given {
+    let mut places = full_places();
+    let found = ranking::read_word(letters, scratch, &mut places);
+    let right = is_left(scratch, 5248) & is_kept(&places, 64);
+    Given {
+        found,
+        places,
+        right,
+    }
+}
+
+fn given_next(letters: &[u8], scratch: &mut [u64]) -> Given {
+    let mut places = full_places();
+    let found = ranking::next_chain(letters, scratch, &mut places);
+    let right = is_left(scratch, 5248) & is_kept(&places, 64);
+    Given {
+        found,
+        places,
+        right,
+    }
+}
+
+// What reading a record told.
+struct Told {
+    placed: Placed,
+    right: bool,
+}
+
+fn told_record(numbers: &[u16], scratch: &mut [u64]) -> Told {
+    let placed = ranking::read_record(numbers, scratch);
+    let right = is_left(scratch, 5248);
+    Told { placed, right }
+}
+
+// ---- lines
+
+fn print_placed(n: u64, position: u64) {
+    print(n);
+    text(b" ");
+    print(position);
+    text(b" ");
+}
+
+// How many parts, and a digest of the places.
+fn print_parts(k: u64, places: &[u16]) {
+    print(k);
+    text(b" ");
+    print(digest_of(places));
+    text(b" ");
+}
+
+// What a service gave in full.
+fn print_found(found: Found, places: &[u16]) {
+    match found {
+        Found::Chain { n, position, k } => {
+            print_placed(n, position);
+            print_parts(k, places);
+        }
+        Found::Refused(number) => {
+            print(number as u64);
+            text(b" ");
+        }
+    }
+}
+
+// The word read: = where it gives k parts of n at the position, with the same places.
+fn tell_word(letters: &[u8], n: u64, position: u64, k: u64, digest: u64) {
+    let mut scratch = full_scratch();
+    let size = lent(n);
+    let given = given_word(letters, &mut scratch[0..size]);
+    let found = given.found;
+    let places = given.places;
+    if is_chain(found, n, position, k) & (digest_of(&places) == digest) {
+        text(b"= ");
+    } else {
+        print_found(found, &places);
+    }
+    mark(given.right);
+}
+
+fn is_chain(found: Found, n: u64, position: u64, k: u64) -> bool {
+    match found {
+        Found::Chain {
+            n: a,
+            position: b,
+            k: c,
+        } => (a == n) & (b == position) & (c == k),
+        Found::Refused(_) => false,
+    }
+}
+
+// The next chain: parts and digest where it is the one of n at the next position.
+fn tell_next(letters: &[u8], n: u64, next: u64) {
+    let mut scratch = full_scratch();
+    let size = lent(n);
+    let given = given_next(letters, &mut scratch[0..size]);
+    let found = given.found;
+    let places = given.places;
+    match found {
+        Found::Chain { n: a, position, k } => {
+            if (a == n) & (position == next) {
+                print_parts(k, &places);
+            } else {
+                print_found(found, &places);
+            }
+        }
+        Found::Refused(_) => print_found(found, &places),
+    }
+    mark(given.right);
+}
+
+// The record read: = where it tells n and the position.
+fn tell_record(numbers: &[u16], n: u64, position: u64) {
+    let mut scratch = full_scratch();
+    let size = lent(n);
+    let told = told_record(numbers, &mut scratch[0..size]);
+    let placed = told.placed;
+    match placed {
+        Placed::At { n: a, position: b } => {
+            if (a == n) & (b == position) {
+                text(b"= ");
+            } else {
+                print_placed(a, b);
+            }
+        }
+        Placed::Refused(number) => {
+            print(number as u64);
+            text(b" ");
+        }
+    }
+    mark(told.right);
+}
+
+// The chain of n at a position, with its record in the places.
+fn tell_chain(n: u64, position: u64, k: u64, places: &[u16]) {
+    print_placed(n, position);
+    print_parts(k, places);
+    let count = first(k);
+    if places.len() < count {
+        return;
+    }
+    let numbers = &places[0..count];
+    let mut letters = [0u8; 64];
+    let written = words::write_word(numbers, &mut letters);
+    match written {
+        Written::Letters(length) => {
+            print(length);
+            text(b" ");
+            print(digest_letters(&letters));
+            text(b" ");
+            let end = first(length);
+            tell_word(&letters[0..end], n, position, k, digest_of(places));
+            tell_record(numbers, n, position);
+            tell_next(&letters[0..end], n, std::num::wrapping_add_u64(position, 1));
+        }
+        Written::Refused(number) => print(number as u64),
+    }
+}
+
+// A line for a position of n. Tells whether there is a chain.
+fn tell(n: u64, position: u64) -> bool {
+    let mut scratch = full_scratch();
+    let size = lent(n);
+    let given = given_at(n, position, &mut scratch[0..size]);
+    let found = given.found;
+    let places = given.places;
+    let mut some = false;
+    match found {
+        Found::Chain {
+            n: a,
+            position: b,
+            k,
+        } => {
+            tell_chain(a, b, k, &places);
+            some = true;
+        }
+        Found::Refused(number) => print(number as u64),
+    }
+    mark(given.right);
+    text(b"\n");
+    some
+}
+
+// ---- numbers
+
+// Every position of n, and one past the last.
+fn tell_all(n: u64) {
+    let mut left: u64 = 1000;
+    let mut position = 0;
+    while 0 < left {
+        if !tell(n, position) {
+            return;
+        }
+        position += 1;
+        left -= 1;
+    }
+}
+
+// The first position of n, the last, one between them, and one past the last.
+fn tell_some(n: u64) {
+    let mut scratch = full_scratch();
+    let count = match counting::table_count(n, &mut scratch) {
+        Counted::Count(w) => w,
+        Counted::Refused(_) => 0,
+    };
+    let last = std::num::wrapping_sub_u64(count, 1);
+    tell(n, 0);
+    tell(n, last);
+    tell(n, last / 2);
+    tell(n, count);
+}
+
+fn tell_around(n: u64) {
+    tell_some(std::num::wrapping_sub_u64(n, 1));
+    tell_some(n);
+    tell_some(std::num::wrapping_add_u64(n, 1));
+}
+
+fn tell_powers() {
+    for a in 0u64..64 {
+        tell_around(1 << a);
+    }
+    let mut power: u64 = 1;
+    for _ in 0u64..41 {
+        tell_around(power);
+        power = std::num::wrapping_add_u64(power, std::num::wrapping_add_u64(power, power));
+    }
+}
+
+// Numbers from a generator by shifts.
+fn tell_many() {
+    let mut x: u64 = 88172645463325252;
+    for _ in 0u64..300 {
+        x = x ^ (x << 13);
+        x = x ^ (x >> 7);
+        x = x ^ (x << 17);
+        tell_some(x);
+    }
+}
+
+// ---- refusals
+
+fn tell_refused_word(letters: &[u8]) {
+    let mut scratch = full_scratch();
+    let given = given_word(letters, &mut scratch);
+    let found = given.found;
+    let places = given.places;
+    print_found(found, &places);
+    mark(given.right);
+    tell_next(letters, 0, 0);
+    text(b"\n");
+}
+
+fn tell_refused_record(numbers: &[u16]) {
+    tell_record(numbers, 0, 0);
+    text(b"\n");
+}
+
+// The number of 2^a × 3^b.
+fn number(a: u64, b: u64) -> u16 {
+    match parts::number_of(a, b) {
+        Number::At(n) => n,
+        Number::None => u16::MAX,
+    }
+}
+
+fn tell_refusals() {
+    tell_refused_word(b"");
+    tell_refused_word(b"\x00");
+    tell_refused_word(b"\x02");
+    tell_refused_word(b"\x04");
+    tell_refused_word(b"\x00\x02\x03");
+    tell_refused_word(b"\x01\x02\x03");
+    tell_refused_word(b"\x01\x03\x02");
+    tell_long(0, 63);
+    tell_long(0, 64);
+    tell_long(2, 40);
+    tell_long(2, 41);
+    tell_long(1, 63);
+    tell_long(1, 64);
+    tell_refused_record(&[]);
+    tell_refused_record(&[1343]);
+    tell_refused_record(&[1344]);
+    tell_refused_record(&[0, 1344]);
+    tell_refused_record(&[0, 0]);
+    tell_refused_record(&[0, 1]);
+    tell_refused_record(&[number(62, 1), number(61, 1)]);
+    tell_refused_record(&[number(63, 0), number(62, 0)]);
+    tell_many_parts();
+}
+
+// A word of `count` letters of one kind, and 3.
+fn tell_long(letter: u8, count: usize)
+    requires { ⌜ count < 70 ⌝ }
+{
+    let mut letters = [letter; 70];
+    letters[count] = 3;
+    let end = count + 1;
+    tell_refused_word(&letters[0..end]);
+}
+
+// A record of the powers of 2 from 2^63 down, and one with 1 once more.
+fn tell_many_parts() {
+    let mut numbers = [0u16; 65];
+    let mut a = 0;
+    while a < 64 {
+        numbers[a] = number((63 - a) as u64, 0);
+        a += 1;
+    }
+    tell_refused_record(&numbers[0..64]);
+    tell_refused_record(&numbers);
+}
+
+// Too little lent: nothing is touched.
+fn tell_little(scratch: &mut [u64], places: &mut [u16]) {
+    let at = ranking::chain_at(19, 3, scratch, places);
+    print_found(at, places);
+    let word = ranking::read_word(b"\x03\x02\x00\x03", scratch, places);
+    print_found(word, places);
+    let next = ranking::next_chain(b"\x01\x01\x00\x00\x03", scratch, places);
+    print_found(next, places);
+    mark(is_left(scratch, 0) & is_kept(places, 0));
+}
+
+fn tell_small_scratch() {
+    let mut scratch = full_scratch();
+    let mut places = full_places();
+    tell_little(&mut scratch[0..5247], &mut places);
+    text(b"\n");
+}
+
+fn tell_small_record() {
+    let mut scratch = full_scratch();
+    let told = told_record(&[9, 0], &mut scratch[0..5247]);
+    let placed = told.placed;
+    match placed {
+        Placed::At { n, position } => print_placed(n, position),
+        Placed::Refused(number) => print(number as u64),
+    }
+    text(b"\n");
+}
+
+fn tell_few_places() {
+    let mut scratch = full_scratch();
+    let mut places = full_places();
+    tell_little(&mut scratch, &mut places[0..63]);
+    text(b"\n");
+}
+
+fn main() {
+    for n in 0..301 {
+        tell_all(n);
+    }
+    tell_some(u64::MAX);
+    tell_some(13835058055282163711);
+    tell_some(15973999968531146337);
+    tell_powers();
+    tell_many();
+    tell_refusals();
+    tell_small_scratch();
+    tell_small_record();
+    tell_few_places();
+}
