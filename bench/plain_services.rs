@@ -18,28 +18,49 @@ fn digest(c: &plain::Chain) -> u64 {
     sum
 }
 
+/// Chains at positions below the count, a block of numbers at a time: first all positions of the block, then all chains.
+fn placed(ts: &plain::Tables, times: u64, t: &mut plain::Table) -> u64 {
+    let (mut x, mut sum, mut done) = (SEED, 0u64, 0);
+    while done < times {
+        let mut block = Vec::new();
+        for _ in 0..BLOCK.min(times - done) {
+            let n = next(x);
+            x = next(n);
+            block.push((n, x % plain::count(ts, n, t)));
+            t.fill(0);
+        }
+        for (n, position) in &block {
+            sum = sum.wrapping_add(plain::chain_at(ts, *n, *position, t).map_or(0, |c| digest(&c)));
+            t.fill(0);
+        }
+        done += block.len() as u64;
+    }
+    sum
+}
+
+const SEED: u64 = 88172645463325252;
+const BLOCK: u64 = 500;
+
 fn main() {
     let words: Vec<String> = std::env::args().collect();
     let service: u64 = words[1].parse().unwrap();
     let times: u64 = words[2].parse().unwrap();
     let ts = plain::Tables::new();
     let mut t = [0u64; plain::SCRATCH];
-    let (mut x, mut sum) = (88172645463325252u64, 0u64);
+    if service == 3 {
+        println!("{}", placed(&ts, times, &mut t));
+        return;
+    }
+    let (mut x, mut sum) = (SEED, 0u64);
     for _ in 0..times {
         x = next(x);
         let n = x;
-        let answer = match service {
-            1 => plain::count(&ts, n, &mut t),
-            2 => {
-                x = next(x);
-                let q = plain::Asked { n, parts: 64, a: 63, b: 40, d: x % 65536, t: (x >> 16) % 65536, s: (x >> 32) % 65536 };
-                plain::best(&ts, &q, &mut t).map_or(0, |c| digest(&c))
-            }
-            _ => {
-                x = next(x);
-                let position = x % plain::count(&ts, n, &mut t);
-                plain::chain_at(&ts, n, position, &mut t).map_or(0, |c| digest(&c))
-            }
+        let answer = if service == 1 {
+            plain::count(&ts, n, &mut t)
+        } else {
+            x = next(x);
+            let q = plain::Asked { n, parts: 64, a: 63, b: 40, d: x % 65536, t: (x >> 16) % 65536, s: (x >> 32) % 65536 };
+            plain::best(&ts, &q, &mut t).map_or(0, |c| digest(&c))
         };
         sum = sum.wrapping_add(answer);
         t.fill(0);
