@@ -8,8 +8,11 @@ values; a word is the walk itself, point by point; the dictionary order is that 
     independent.py             lists the WHATs
 """
 import itertools
+import random
 import re
 import sys
+
+import grown
 
 LIMIT = 2**64
 POINTS = [(a, b) for a in range(64) for b in range(41) if 2**a * 3**b < LIMIT]
@@ -283,6 +286,128 @@ def answer(file):
     return "".join(reply_to(line) + "\n" for line in lines_of(file))
 
 
+# ---- files to answer
+
+
+def hexed(*fields):
+    """A line from (value, bytes) pairs."""
+    return "".join(f"{value:0{2 * size}X}" for value, size in fields).encode()
+
+
+def word_line(kind, word):
+    return hexed((kind, 1), (len(word), 1), *((int(letter), 1) for letter in word))
+
+
+def chain_line(chain):
+    return hexed((4, 1), (len(chain), 1), *((NUMBER[p], 2) for p in chain))
+
+
+def small_file(most):
+    """Every kind for all numbers to `most`, with every position and one past it."""
+    for n in range(most + 1):
+        yield hexed((1, 1), (n, 8))
+        yield hexed((2, 1), (n, 8), (255, 1), (255, 1), (255, 1), (n % 11, 2), (n % 7, 2), (n % 5, 2))
+        yield hexed((2, 1), (n, 8), (n % 4, 1), (n % 6, 1), (n % 3, 1), (4, 2), (7, 2), (9, 2))
+        for position in range(count(n) + 1):
+            yield hexed((3, 1), (n, 8), (position, 8))
+        for position in range(count(n)):
+            word = word_at(n, position)
+            yield chain_line(chain_of(word))
+            yield word_line(5, word)
+            yield word_line(6, word)
+
+
+def refused_file():
+    """Each refusal, and lines that qualify for two: the first by document 01's order is given."""
+    good_line = hexed((1, 1), (19, 8))
+    for length in (0, 1, 2, 3, 16, 17, 19, 20, 512, 513, 514, 515, 516, 600, 100000):
+        yield b"0" * length
+        yield b"01" * (length // 2) + b"g" * (length % 2)
+    for byte in [0, 9, 13, 32, 47, 58, 64, 71, 96, 97, 102, 103, 127, 128, 255]:
+        yield good_line[:-1] + bytes([byte])
+        yield bytes([byte])
+        yield bytes([byte]) * 2
+        yield bytes([byte]) + good_line
+    yield good_line + b"\r"
+    yield good_line.lower()
+    yield hexed((2, 1), (171, 8), (64, 1), (63, 1), (40, 1), (10, 2), (11, 2), (12, 2)).lower()
+    for kind in (0, 7, 8, 10, 127, 128, 255):
+        yield hexed((kind, 1))
+        yield hexed((kind, 1), (19, 8))
+        yield hexed((kind, 1), (19, 8)) + b"x"
+    for kind in range(1, 7):
+        for extra in range(0, 20):
+            yield hexed((kind, 1)) + b"00" * extra
+    for k in (0, 1, 2, 63, 64, 65, 66, 127):
+        for numbers in ([0] * k, [1344] * k, list(range(k, 0, -1)), [65535] + [0] * (k - 1) if k else []):
+            yield hexed((4, 1), (k, 1), *((i, 2) for i in numbers))
+    for k in (128, 200, 255):
+        yield hexed((4, 1), (k, 1)) + b"0000" * 127
+        yield hexed((4, 1), (k, 1)) + b"0000"
+    twos = [(a, 0) for a in range(63, -1, -1)]
+    for chain in ([(62, 1), (61, 1)], [(63, 0), (62, 0)], [(62, 1), (61, 0)], twos, twos[:63], [(0, 0), (1, 0)], [(3, 1), (3, 1)]):
+        yield chain_line(chain)
+    for word in ("", "3", "0", "2", "02", "12", "023", "123", "303", "13", "33", "4", "43", "34", "0" * 63 + "3", "0" * 64 + "3"):
+        yield word_line(5, word)
+        yield word_line(6, word)
+    for letter, k in ((0, 254), (1, 254), (2, 254), (3, 254), (1, 63), (1, 64), (2, 40), (2, 41), (3, 40), (3, 41)):
+        yield word_line(5, str(letter) * k + "3")
+        yield word_line(6, str(letter) * k + "3")
+    for letters in ([255], [3, 255], [255, 3], [4, 3], [16, 3], [3, 19, 3]):
+        for kind in (5, 6):
+            yield hexed((kind, 1), (len(letters), 1), *((l, 1) for l in letters))
+    for n in EDGES + SPECIAL + [0, 1]:
+        yield hexed((1, 1), (n, 8))
+        for position in (0, count(n) - 1, count(n), LIMIT - 1):
+            yield hexed((3, 1), (n, 8), (position, 8))
+        for limits in LIMITS + EDGE_LIMITS:
+            yield hexed((2, 1), (n, 8), *((x, 1) for x in limits), *((x, 2) for x in PRICES[n % 6]))
+
+
+def some_lines(seed, times):
+    """Random and damaged lines of all kinds, with numbers of all sizes."""
+    chance = random.Random(seed)
+
+    def number():
+        return chance.getrandbits(chance.choice((3, 8, 16, 32, 48, 63, 64, 64)))
+
+    def some_word():
+        n = number()
+        return word_at(n, chance.randrange(count(n)))
+
+    def line():
+        kind = chance.choice((1, 1, 1, 2, 3, 3, 3, 4, 4, 4, 5, 5, 6, 6))
+        n = number()
+        if kind == 1:
+            return hexed((1, 1), (n, 8))
+        if kind == 2:
+            limits = chance.choice(((255, 255, 255), (chance.randrange(22), 63, 40), (64, chance.randrange(64), chance.randrange(41))))
+            prices = [chance.choice((0, 1, 65535, chance.getrandbits(16))) for _ in range(3)]
+            return hexed((2, 1), (n, 8), *((x, 1) for x in limits), *((x, 2) for x in prices))
+        if kind == 3:
+            return hexed((3, 1), (n, 8), (chance.randrange(count(n) + 2), 8))
+        word = some_word()
+        return chain_line(chain_of(word)) if kind == 4 else word_line(kind, word)
+
+    def damaged(text):
+        way, at = chance.randrange(6), chance.randrange(len(text))
+        if way == 0:
+            return text[:at] + bytes([chance.choice(b"0123456789ABCDEF")]) + text[at + 1 :]
+        if way == 1:
+            return text[:at] + bytes([chance.choice([x for x in range(256) if x != 10])]) + text[at + 1 :]
+        if way == 2:
+            return text[:at] + text[at + 1 :]
+        if way == 3:
+            return text[: 2 * (at // 2)] + text[2 * (at // 2) + 2 :]
+        if way == 4:
+            return text + text[: chance.randrange(len(text))]
+        return text[:2] + hexed((chance.getrandbits(8), 1)) + text[4:]
+
+    for _ in range(times):
+        text = line()
+        yield damaged(text) if chance.randrange(4) == 0 else text
+
+
 LISTING = b"""010000000000000013
 020000000000000013023F28000400070009
 03000000000000001B0000000000000006
@@ -503,6 +628,77 @@ def test_ranking():
     yield "1 1 1 "
 
 
+# ---- the best chain
+
+PRICES = [(4, 7, 9), (0, 0, 0), (65535, 65535, 65535), (1, 65535, 0), (65535, 1, 3), (0, 1, 65535)]
+FREE = (255, 255, 255)
+LIMITS = [FREE, (64, 63, 40), (3, 63, 40), (2, 5, 2), (4, 3, 40), (3, 63, 1), (1, 255, 255), (0, 0, 0), (5, 0, 40), (6, 63, 0)]
+EDGE_LIMITS = [FREE, (63, 63, 40), (62, 63, 40), (64, 63, 0), (63, 63, 0), (64, 0, 40), (255, 62, 40), (255, 63, 39)]
+EDGES = [3 * 2**62 - 1, 3 * 2**62, 2**64 - 1, 2**64 - 2, 2**63, 2**62 - 1, 3**40, 3**40 - 1, 3**40 + 1, 2**63 - 1]
+EDGES += [(2**36 * 3**19 - 27) // 5]
+
+
+def listed_best(entries, limits, prices):
+    """Of the list of a number: (position, chain), by looking at every chain."""
+    (most, most_a, most_b), (d, t, s) = limits, prices
+    fitting = []
+    for i, (_, c) in enumerate(entries):
+        a, b = c[0] if c else (0, 0)
+        if not c or (len(c) <= most and a <= most_a and b <= most_b):
+            fitting.append((len(c), d * a + t * b + s * (len(c) - 1) if c else 0, i, c))
+    return min(fitting) if fitting else None
+
+
+def told(found):
+    position, k, price, points = found
+    return " ".join(map(str, [position, k, price] + [NUMBER[p] for p in points]))
+
+
+def around_line(n, i, free, prices):
+    """Limits one below, at and one above what the best needs: on parts all three, on doublings and triplings one in turn."""
+    position, k, _, points = free
+    a, b = points[0] if points else (0, 0)
+    text = ""
+    for at, limit in (0, k - 1), (0, k), (0, k + 1), (1, a - 1 + i % 3), (2, b - 1 + i // 3 % 3):
+        limits = tuple(max(limit, 0) if j == at else 255 for j in range(3))
+        found = grown.best(n, limits, prices)
+        text += ("5" if found is None else "=" if found[0] == position else "%d %d %d" % found[:3]) + " "
+    return text
+
+
+def left_line(n, limits, size, places):
+    """The answer, then how far zeros and then what was there before reach: in the scratch, and in the places behind the parts."""
+    if size < 5248 or places < 64:
+        return f"1 0 {size} 0 {places}"
+    found = grown.best(n, limits, PRICES[0])
+    return f"5 5248 {size} 0 {places}" if found is None else f"{told(found)} 5248 {size} 64 {places}"
+
+
+@what
+def test_best():
+    for n, entries in enumerate(listing(400)):
+        for i in range(12):
+            limits, prices = LIMITS[i % 10], PRICES[(n + i) % 6]
+            found = listed_best(entries, limits, prices)
+            line = "5" if found is None else told((found[2], found[0], found[1], found[3]))
+            again = grown.best(n, limits, prices)
+            assert line == ("5" if again is None else told(again))
+            yield line
+        grown.forget()
+    for i, n in enumerate(shifts(1000)):
+        free = grown.best(n, FREE, PRICES[i % 6])
+        yield told(free)
+        yield around_line(n, i, free, PRICES[i % 6])
+        grown.forget()
+    for n in EDGES:
+        for limits in EDGE_LIMITS:
+            yield left_line(n, limits, 5250, 66)
+    for n, limits in (19, (2, 63, 40)), (5, (1, 63, 40)), (29, FREE), (0, (0, 0, 0)):
+        yield left_line(n, limits, 5250, 66)
+    yield left_line(19, FREE, 5247, 66)
+    yield left_line(19, FREE, 5250, 63)
+
+
 SPECIAL = [65535, 65536, 10**6, 2**32 - 1, 2**32, 10**18, 3**19 - 1, 3**19, 3**19 + 1, 2**30 * 3**19, 2**62 - 1, 2**62]
 SPECIAL += [2**63 - 1, 2**63, 2**63 + 1, 3**40 - 1, 3**40, 3**40 + 1, 3 * 2**62 - 1, 3 * 2**62, (2**36 * 3**19 - 27) // 5]
 SPECIAL += [3**34 * 1000, 2**64 - 2, 2**64 - 1]
@@ -551,11 +747,27 @@ def test_parts():
     yield sum_or_dash(3 * 2**62, 3 * 2**61)
 
 
+@what
+def test_files_stdin():
+    """Every kind for all numbers to 200; refusals; random and damaged lines; empty lines; a last line without its byte 10."""
+    lines = list(small_file(200)) + list(refused_file()) + [b"", b""] + list(some_lines(1, 5000)) + [b"", LISTING.split(b"\n")[0]]
+    return b"\n".join(lines)
+
+
+@what
+def test_files():
+    return answer(test_files_stdin())
+
+
 def main():
     if len(sys.argv) != 2 or sys.argv[1] not in WHATS:
         sys.exit(__doc__ + "\nWHAT: " + " ".join(sorted(WHATS)))
     check_003()
-    sys.stdout.write("".join(line + "\n" for line in WHATS[sys.argv[1]]()))
+    made = WHATS[sys.argv[1]]()
+    if isinstance(made, bytes):
+        sys.stdout.buffer.write(made)
+    else:
+        sys.stdout.write(made if isinstance(made, str) else "".join(line + "\n" for line in made))
 
 
 if __name__ == "__main__":

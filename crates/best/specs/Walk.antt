@@ -19,7 +19,7 @@ use Rattle.chains.specs.Keys.{inside, bestAt, keyOr, leastKey}
 use Rattle.chains.specs.Bests.{lead, raiseA, raiseB, keyA, keyB, best-one, least-step, take-a, take-b, least-told}
 use Rattle.grid.specs.Grid.{scratchSize, Table}
 use Rattle.grid.specs.Fill.{read-free, read-after-a}
-use Rattle.ranking.specs.Walks.{restAt, rest-origin, rest-right, rest-up, point-low, drop-more, take-more, take-stored}
+use Rattle.ranking.specs.Points.{restAt, rest-origin, rest-right, rest-up, point-low, drop-more, take-more, take-stored}
 use Rattle.best.specs.KeyTable.{noKey, letterBy, costsBy, Low, keyCell, cell-live, cell-at-most}
 
 -- ---- the table and the best word

@@ -1,13 +1,15 @@
--- How the answers and the lent memory of the services come out, case by case: too little is lent; a record by its word.
+-- How the answers and the lent memory of the services come out, case by case. In order: a scratch too small, and one that is not; the
+-- scratch with a table; a record by its word; a word by its parts; too little lent to a service with places, and enough; the chain at a
+-- position; the next chain of a word.
 use mathlib.Core.Path.{_≡_, refl, sym, ap, _∙_}
 use mathlib.Core.Bool.{Bool, true, false, _||_}
 use mathlib.Core.List.{List, [], List·Memᴰ}
 use Prim.Native.Nat.{ℕ, _+_, _-_, _^_, _≤_, _<_}
 use native.Mathlib.Nat.{sub-zero}
 use native.Mathlib.Omega.{arith}
-use borrow.Author.Tests.{lt-ltb, le-ltb}
-use lib.Dec.{T, ltb}
-use lib.ListN.{length, take}
+use lib.Dec.{T, ltb, leb}
+use lib.ListN.{length, take, drop}
+use borrow.Author.Tests.{lt-ltb, le-ltb, le-leb}
 use Rattle.chains.specs.Words.{Word, wordOf, reads}
 use Rattle.chains.specs.Listing.{listOf, count, countBefore, position, chainAt}
 use Rattle.chains.specs.Weight.{weight}
@@ -18,8 +20,8 @@ use Rattle.chains.specs.PositionsOfChains.{chainAt-chain, position-at}
 use Rattle.chains.specs.RoundTrip.{word-reads, word-chain-word}
 use Rattle.chains.specs.Bounds.{word-bound}
 use Rattle.chains.specs.Chains.{Part}
-use Rattle.grid.specs.Grid.{scratchSize}
 use Rattle.lent.specs.Lent.{filled, filled-first}
+use Rattle.grid.specs.Grid.{scratchSize}
 use Rattle.words.specs.Answers.{weighedOf}
 use Rattle.words.specs.declared.Weighed.the-variants.{Number, Over}
 use Rattle.words.specs.Records.{recordParts, judgedOf}
@@ -30,12 +32,15 @@ use Rattle.words.specs.declared.Judged.the-variants as judged
 use Rattle.words.specs.declared.Written.the-variants as written
 use Rattle.words.specs.declared.Parted.{Parted}
 use Rattle.words.specs.declared.Parted.the-variants as parted
+use Rattle.counting.specs.Table.{CountsIn}
+use Rattle.counting.specs.TableCount.{TableAsked}
 use Rattle.ranking.specs.Services.{Outcome, refused, gives, pick, lentScratch, tooLittle, lent, scratchLeft, pickList, placedOf, answerOf, placesLeft, judgedAs, ofRecord, ofWord, standing, after, nextOf}
 use Rattle.ranking.specs.Outcomes.{standing-below, of-chain, of-gives, of-weighed, of-over, position-word}
-use Rattle.ranking.specs.Walks.{wordAt, WordFound}
+use Rattle.ranking.specs.Walks.{wordAt, WordFound, Tabled}
 use Rattle.ranking.specs.declared.Placed.the-variants as placed
 use Rattle.ranking.specs.declared.Found.{Found}
 use Rattle.ranking.specs.declared.Found.the-variants as found
+use Rattle.ranking.specs.declared.Placed.the-variants as placed
 
 -- ---- a scratch too small, and one that is not
 
@@ -49,6 +54,24 @@ pub scratch-served : (s t : List ℕ) (o : Outcome) (r : placed.the-data) → sc
     → (r ≡ placedOf (lentScratch s o)) × (t ≡ scratchLeft (ltb (length s) scratchSize) s)
 unfolding lentScratch pick scratchLeft pickList
 scratch-served s t o r h e f = rw (le-ltb (length s) scratchSize h) (e, f)
+
+-- ---- the scratch with a table
+
+-- Where the scratch has room, the table is there, and what stands behind it is as it was.
+pub filled-counts :
+    {r : Bool} {n : ℕ} {entry l : List ℕ}
+    → (r ≡ leb scratchSize (length entry)) × TableAsked r n entry l
+    → scratchSize ≤ length entry
+    → CountsIn n entry l
+filled-counts {entry} f h = f .1 .there (f .0 ∙ le-leb scratchSize (length entry) h)
+
+pub filled-table : {n : ℕ} {entry l : List ℕ} → CountsIn n entry l → scratchSize ≤ length entry → Tabled n l
+filled-table f h = record { size = omega (arith, f .same); table = f .rows }
+
+-- Zeroing it, then, leaves what zeroing it at entry would.
+pub filled-again : (entry l : List ℕ) → drop scratchSize l ≡ drop scratchSize entry → filled scratchSize [] l ≡ filled scratchSize [] entry
+unfolding filled
+filled-again entry l e = rw e
 
 -- ---- a record
 
@@ -147,12 +170,12 @@ module _ (w : Word) (entry : List ℕ) (h : 64 ≤ length entry) where
             let number : m ≡ n = cc a in
             (c, g ∙ ap (λ (y : ℕ). gives y c) number, cc a)
 
-    pub read-refused : (r : ℕ) → x ≡ parted.Refused r → found.Refused r ≡ answerOf (ofWord w)
-    unfolding partedAs answerOf
+    pub read-refused : (r : ℕ) → x ≡ parted.Refused r → ofWord w ≡ refused r
+    unfolding partedAs
     read-refused r f = go (ofWord w) refl
       where
-        go : (o : Outcome) → ofWord w ≡ o → found.Refused r ≡ answerOf (ofWord w)
-        go (refused y) g = let same : y ≡ r = cc (rw g at answer) in rw (g, same)
+        go : (o : Outcome) → ofWord w ≡ o → ofWord w ≡ refused r
+        go (refused y) g = let same : y ≡ r = cc (rw g at answer) in g ∙ ap refused same
         go (gives m c) g =
             let z : _≡_ {A = ℕ} 0 1 = cc (rw g at answer) in
             absurd (omega arith)
@@ -165,6 +188,16 @@ pub word-found : (w : Word) (n k p : ℕ) (c : List Part) → ofWord w ≡ gives
     → found.Chain n p k ≡ answerOf (ofWord w)
 unfolding answerOf position
 word-found w n k p c e size b = let (chain, word, fits) = of-gives w n c e in rw (e, size, b, word)
+
+-- Of a good word that weighs n, where p words stand before it.
+pub word-placed : (w : Word) (n p : ℕ) → T (reads true w) → weighedOf w ≡ Number n → p ≡ countBefore w (listOf n)
+    → placed.At n p ≡ placedOf (ofWord w)
+unfolding placedOf
+word-placed w n p h e b = rw (of-weighed w n h e .0, b, ← position-word w n h)
+
+pub word-over : (w : Word) → T (reads true w) → weighedOf w ≡ Over → placed.Refused 10 ≡ placedOf (ofWord w)
+unfolding placedOf
+word-over w h e = rw (of-over w h e)
 
 -- ---- too little is lent to a service with places, and enough
 
@@ -192,16 +225,17 @@ unfolding lent pick tooLittle scratchLeft pickList
 enough s p s′ p′ o r h k e f g = rw (le-ltb (length s) scratchSize h, le-ltb (length p) 64 k) (e, (f, g))
 
 -- A refusal, which leaves the places as they were.
-pub refused-found : (o : Outcome) (r : ℕ) (p : List ℕ) → o ≡ refused r → (found.Refused r ≡ answerOf o) × (p ≡ placesLeft o p)
-unfolding answerOf placesLeft
-refused-found o r p e = rw e (refl, refl)
+pub refused-found : (o : Outcome) (r : ℕ) (p : List ℕ) (x : Found) → o ≡ refused r → x ≡ answerOf (refused r)
+    → (x ≡ answerOf o) × (p ≡ placesLeft o p)
+unfolding placesLeft
+refused-found o r p x e f = rw e (f, refl)
 
-pub enough-refused : (s p s′ : List ℕ) (o : Outcome) (r : ℕ) → scratchSize ≤ length s → 64 ≤ length p
-    → o ≡ refused r → s′ ≡ filled scratchSize [] s
-    → (found.Refused r ≡ answerOf (lent s p o)) × ((p ≡ placesLeft (lent s p o) p) × (s′ ≡ scratchLeft (tooLittle s p) s))
-enough-refused s p s′ o r h k e g =
-    let (answer, left) = refused-found o r p e in
-    enough s p s′ p o (found.Refused r) h k answer left g
+pub enough-refused : (s p s′ : List ℕ) (o : Outcome) (r : ℕ) (x : Found) → scratchSize ≤ length s → 64 ≤ length p
+    → o ≡ refused r → x ≡ answerOf (refused r) → s′ ≡ filled scratchSize [] s
+    → (x ≡ answerOf (lent s p o)) × ((p ≡ placesLeft (lent s p o) p) × (s′ ≡ scratchLeft (tooLittle s p) s))
+enough-refused s p s′ o r x h k e f g =
+    let (answer, left) = refused-found o r p x e f in
+    enough s p s′ p o x h k answer left g
 
 -- ---- the chain at a position
 

@@ -1,6 +1,13 @@
--- What the services that find a chain or its place answer and leave behind. Services holds the definitions, the rest is theory.
+-- What the services that find a chain or its place answer and leave behind.
+--
+-- What a reader must believe: Services. The theorems on it:
+--   Outcomes    each service's outcome for 003's chains, and that it gives nothing else
+--   RoundTrips  demand 2, for the services' own answers
+-- What the private functions cite:
+--   Points      the points of a walk over a table
+--   Walks       what the walks and the calls around them ask for and keep
 pub mod Services
 pub mod Outcomes
 pub mod RoundTrips
+pub mod Points
 pub mod Walks
-pub mod Tables

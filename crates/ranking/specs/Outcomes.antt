@@ -7,9 +7,9 @@ use mathlib.Core.List.{List, map, List·Memᴰ}
 use Prim.Native.Nat.{ℕ, _+_, _^_, _≤_, _<_}
 use native.Mathlib.Decide.{decLt}
 use native.Mathlib.Omega.{arith}
-use borrow.Author.Tests.{lt-ltb, lt-leb, le-leb, ltb-true}
 use lib.Dec.{T, ltb}
 use lib.Ieee.Bits.{is-true}
+use borrow.Author.Tests.{lt-ltb, lt-leb, le-leb, ltb-true}
 use Rattle.chains.specs.Chains.{Part, ChainOf}
 use Rattle.chains.specs.Words.{Word, wordOf, chainOf, reads}
 use Rattle.chains.specs.Listing.{listOf, count, countBefore, position, chainAt}

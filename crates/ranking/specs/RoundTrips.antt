@@ -9,35 +9,20 @@ use mathlib.Core.List.{List, map}
 use Prim.Native.Nat.{ℕ, _+_, _^_, _≤_, _<_}
 use native.Mathlib.Decide.{decLt}
 use native.Mathlib.Omega.{arith}
-use borrow.Author.Tests.{le-ltb}
 use lib.Dec.{ltb}
 use lib.ListN.{length, take, length-map}
+use borrow.Author.Tests.{le-ltb}
 use Rattle.chains.specs.Chains.{Part, ChainOf}
 use Rattle.chains.specs.Words.{Word, wordOf}
 use Rattle.chains.specs.Listing.{count, position}
 use Rattle.chains.specs.PositionsOfChains.{at-position}
-use Rattle.grid.specs.Grid.{scratchSize}
 use Rattle.lent.specs.Lent.{filled, filled-first}
+use Rattle.grid.specs.Grid.{scratchSize}
 use Rattle.parts.specs.Parts.{placeOf}
 use Rattle.words.specs.Conversions.{writtenOf, lettersLeft}
 use Rattle.words.specs.WordLaws.{chain-written}
 use Rattle.words.specs.declared.Written.the-variants as written
-use Rattle.ranking.specs.Services.{
-  Outcome,
-  refused,
-  gives,
-  pick,
-  tooLittle,
-  lent,
-  lentScratch,
-  answerOf,
-  placesLeft,
-  placedOf,
-  atPosition,
-  ofWord,
-  nextOf,
-  ofRecord,
-}
+use Rattle.ranking.specs.Services.{Outcome, refused, gives, pick, tooLittle, lent, lentScratch, answerOf, placesLeft, placedOf, atPosition, ofWord, nextOf, ofRecord}
 use Rattle.ranking.specs.Outcomes.{at-below, at-past, at-chain, at-gives, of-chain, of-gives, next-below, next-last, next-gives, record-chain, record-gives}
 use Rattle.ranking.specs.declared.Placed.the-variants as placed
 use Rattle.ranking.specs.declared.Found.the-variants as found

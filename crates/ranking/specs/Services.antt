@@ -12,8 +12,8 @@ use Rattle.chains.specs.Chains.{Part}
 use Rattle.chains.specs.Words.{Word, chainOf, reads}
 use Rattle.chains.specs.Weight.{weight}
 use Rattle.chains.specs.Listing.{count, position, chainAt}
-use Rattle.grid.specs.Grid.{scratchSize}
 use Rattle.lent.specs.Lent.{filled}
+use Rattle.grid.specs.Grid.{scratchSize}
 use Rattle.parts.specs.Parts.{placeOf}
 use Rattle.words.specs.declared.Judged.{Judged}
 use Rattle.words.specs.declared.Judged.the-variants as judged

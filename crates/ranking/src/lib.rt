@@ -63,10 +63,7 @@ pub fn read_word(letters: &[u8], scratch: &mut [u64], places: &mut [u16]) -> Fou
             let position = tables::position_of(n, letters, scratch);
             Found::Chain { n, position, k }
         }
-        Parted::Refused(number) => {
-            tables::clear(scratch);
-            Found::Refused(number)
-        }
+        Parted::Refused(number) => tables::refuse(number, scratch),
     }
 }
 
@@ -101,12 +98,10 @@ pub fn next_chain(letters: &[u8], scratch: &mut [u64], places: &mut [u16]) -> Fo
         return Found::Refused(1);
     }
     if !words::is_good(letters) {
-        tables::clear(scratch);
-        return Found::Refused(7);
+        return tables::refuse(7, scratch);
     }
     let Weighed::Number(n) = words::weigh(letters) else {
-        tables::clear(scratch);
-        return Found::Refused(10);
+        return tables::refuse(10, scratch);
     };
     tables::give_after(n, letters, scratch, places)
 }

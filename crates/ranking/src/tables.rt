@@ -11,8 +11,8 @@ ghost use lib.ListN.{length};
 ghost use Rattle.chains.specs.Listing.{listOf, countBefore};
 ghost use Rattle.grid.specs.Grid.{scratchSize};
 ghost use Rattle.lent.specs.Lent.{filled};
-ghost use Rattle.ranking.specs.Services.{placedOf, answerOf, placesLeft, ofWord, standing};
-ghost use Rattle.ranking.specs.Tables.{Listed, Readable, Giving};
+ghost use Rattle.ranking.specs.Services.{refused, placedOf, answerOf, placesLeft, ofWord, standing};
+ghost use Rattle.ranking.specs.Walks.{Listed, Readable, Giving};
 
 // Zeroes the first 5,248 numbers of the scratch.
 pub fn clear(scratch: &mut [u64])
@@ -20,6 +20,16 @@ pub fn clear(scratch: &mut [u64])
     ensures { λ _. ⌜ now (scratch .exit) ≡ filled scratchSize [] (now (scratch .entry)) ⌝ }
 {
     lent::clear_u64(&mut scratch[0..5248]);
+}
+
+// A refusal by its number; the scratch is zeroed as on success.
+pub fn refuse(number: u8, scratch: &mut [u64]) -> Found
+    requires { ⌜ scratchSize ≤ length (now scratch) ⌝ }
+    ensures { λ r. ⌜ r ≡ answerOf (refused number) ⌝ }
+    ensures { λ _. ⌜ now (scratch .exit) ≡ filled scratchSize [] (now (scratch .entry)) ⌝ }
+{
+    clear(scratch);
+    Found::Refused(number)
 }
 
 // The position in the list of n of a word that stands there.
@@ -56,8 +66,7 @@ pub fn give_at(n: u64, i: u64, refusal: u8, scratch: &mut [u64], places: &mut [u
     ensures { λ _. ⌜ now (scratch .exit) ≡ filled scratchSize [] (now (scratch .entry)) ⌝ }
 {
     if walks::count_in(n, scratch) <= i {
-        clear(scratch);
-        return Found::Refused(refusal);
+        return refuse(refusal, scratch);
     }
     let mut letters = [0u8; 64];
     let length = walks::word_at(n, i, scratch, &mut letters);

@@ -6,7 +6,8 @@ ghost use Prim.Native.Nat.{_+_, _/_, _≤_, _<_};
 ghost use lib.ListN.{length, take};
 ghost use Rattle.chains.specs.Listing.{listOf, count, countBefore};
 ghost use Rattle.chains.specs.Counts.{ways};
-ghost use Rattle.ranking.specs.Walks.{restAt, Tabled, Between, RankStart, RankStep, RankWalked, WordStart, WordStep, WordRisen, WordFound};
+ghost use Rattle.ranking.specs.Points.{restAt, Between};
+ghost use Rattle.ranking.specs.Walks.{Tabled, RankStart, RankStep, RankWalked, WordStart, WordStep, WordRisen, WordFound};
 
 // The count of n. The table has 0 for the number 0, which has one chain, the empty one.
 pub fn count_in(n: u64, scratch: &[u64]) -> u64

@@ -67,37 +67,51 @@ fn spell(index: u64) -> Spelled
     Spelled { letters, from }
 }
 
-// The record again as a word.
-fn print_written(numbers: &[u16]) {
-    let mut places = [170u8; 64];
-    match words::write_word(numbers, &mut places) {
-        Written::Letters(k) => {
-            let end = k as usize;
-            if end <= 64 {
-                print_bytes(&places[0..end]);
-            }
-        }
+// The first of some places.
+fn print_first(places: &[u8], k: u64) {
+    let end = k as usize;
+    if end <= places.len() {
+        print_bytes(&places[0..end]);
+    }
+}
+
+fn print_written(numbers: &[u16], places: &mut [u8]) {
+    match words::write_word(numbers, places) {
+        Written::Letters(k) => print_first(places, k),
         Written::Refused(number) => print(wide(number)),
     }
 }
 
-// A good word's number, how many parts it has, their numbers, and the word written from them.
-fn print_parts(word: &[u8]) {
-    let mut places = [170u16; 64];
-    match words::word_parts(word, &mut places) {
+// A record, and the word written from it.
+fn print_record(numbers: &[u16]) {
+    print_numbers(numbers);
+    text(b" :");
+    let mut places = [170u8; 64];
+    print_written(numbers, &mut places);
+}
+
+fn print_parts(word: &[u8], places: &mut [u16]) {
+    match words::word_parts(word, places) {
         Parted::Chain { n, k } => {
             print(n);
             print(k);
+            text(b" :");
             let end = k as usize;
-            if end <= 64 {
-                text(b" :");
-                print_numbers(&places[0..end]);
-                text(b" :");
-                print_written(&places[0..end]);
+            if end <= places.len() {
+                print_record(&places[0..end]);
             }
         }
         Parted::Refused(number) => print(wide(number)),
     }
+}
+
+// A good word with its number, how many parts it has, their numbers, and the word written from them.
+fn print_good(word: &[u8]) {
+    print_bytes(word);
+    text(b" :");
+    let mut places = [170u16; 64];
+    print_parts(word, &mut places);
+    text(b"\n");
 }
 
 fn print_word(index: u64) {
@@ -106,10 +120,7 @@ fn print_word(index: u64) {
     let letters = w.letters;
     let word = &letters[from..5];
     if words::is_good(word) {
-        print_bytes(word);
-        text(b" :");
-        print_parts(word);
-        text(b"\n");
+        print_good(word);
     }
 }
 
@@ -171,8 +182,9 @@ fn print_weight(word: &[u8]) {
     }
 }
 
-fn print_parted(answer: Parted) {
-    match answer {
+// What a word gets that lends some places, and the places.
+fn show_parts(word: &[u8], places: &mut [u16]) {
+    match words::word_parts(word, places) {
         Parted::Chain { n, k } => {
             print(n);
             print(k);
@@ -183,6 +195,7 @@ fn print_parted(answer: Parted) {
         }
     }
     text(b" :");
+    print_numbers(places);
 }
 
 fn show_word(word: &[u8]) {
@@ -193,11 +206,9 @@ fn show_word(word: &[u8]) {
     }
     print_weight(word);
     let mut places = [170u16; 66];
-    print_parted(words::word_parts(word, &mut places));
-    print_numbers(&places);
+    show_parts(word, &mut places);
     let mut few = [170u16; 63];
-    print_parted(words::word_parts(word, &mut few));
-    print_numbers(&few);
+    show_parts(word, &mut few);
     text(b"\n");
 }
 
@@ -227,33 +238,48 @@ fn show_words() {
     show_long(255, 2);
 }
 
-fn show_damaged() {
-    let letters = [3u8, 0, 3, 4, 3, 2, 0, 2, 3, 255];
-    show_word(&letters[0..0]);
-    show_word(&letters[0..1]);
-    show_word(&letters[0..2]);
-    show_word(&letters[0..3]);
-    show_word(&letters[2..5]);
-    show_word(&letters[4..6]);
-    show_word(&letters[5..9]);
-    show_word(&letters[7..9]);
-    show_word(&letters[8..10]);
+// The letters from i up to j.
+fn show_cut(letters: &[u8], i: usize, j: usize) {
+    if i <= j {
+        if j <= letters.len() {
+            show_word(&letters[i..j]);
+        }
+    }
+}
+
+fn show_cuts(letters: &[u8]) {
+    show_cut(letters, 0, 0);
+    show_cut(letters, 0, 1);
+    show_cut(letters, 0, 2);
+    show_cut(letters, 0, 3);
+    show_cut(letters, 2, 5);
+    show_cut(letters, 4, 6);
+    show_cut(letters, 5, 9);
+    show_cut(letters, 7, 9);
+    show_cut(letters, 8, 10);
 }
 
 // A good word and one that is not, in each order, and the latter with itself.
-fn show_refused() {
-    let good = [3u8];
-    let bad = [2u8];
-    print_compared(&good, &bad);
-    print_compared(&bad, &good);
-    print_compared(&bad, &bad);
+fn show_refused(good: &[u8], bad: &[u8]) {
+    print_compared(good, bad);
+    print_compared(bad, good);
+    print_compared(bad, bad);
     text(b"\n");
+}
+
+fn show_damaged() {
+    let letters = [3u8, 0, 3, 4, 3, 2, 0, 2, 3, 255];
+    show_cuts(&letters);
+    let bad = [2u8];
+    let good = [3u8];
+    show_refused(&good, &bad);
 }
 
 // ---- records
 
-fn print_answer(answer: Written) {
-    match answer {
+// What a record gets that lends some places, and the places.
+fn show_written(numbers: &[u16], places: &mut [u8]) {
+    match words::write_word(numbers, places) {
         Written::Letters(k) => print(k),
         Written::Refused(number) => {
             text(b" refused");
@@ -261,9 +287,10 @@ fn print_answer(answer: Written) {
         }
     }
     text(b" :");
+    print_bytes(places);
 }
 
-fn show_record(numbers: &[u16]) {
+fn print_judged(numbers: &[u16]) {
     match words::judge_record(numbers) {
         Judged::Sum(n) => print(n),
         Judged::Refused(number) => {
@@ -271,12 +298,14 @@ fn show_record(numbers: &[u16]) {
             print(wide(number));
         }
     }
+}
+
+fn show_record(numbers: &[u16]) {
+    print_judged(numbers);
     let mut places = [170u8; 66];
-    print_answer(words::write_word(numbers, &mut places));
-    print_bytes(&places);
+    show_written(numbers, &mut places);
     let mut few = [170u8; 63];
-    print_answer(words::write_word(numbers, &mut few));
-    print_bytes(&few);
+    show_written(numbers, &mut few);
     text(b"\n");
 }
 
@@ -327,6 +356,5 @@ fn main() {
     print_rows();
     show_words();
     show_damaged();
-    show_refused();
     show_records();
 }

@@ -118,7 +118,8 @@ judged-sum l n = (there, back)
 
     there : judgedOf l ≡ Sum n → Burned l n
     there e =
-        let (inside, chained, below, sums) = tests-passed (ltb 64 (length l) || beyond l) (chainedTest c) (leb limit (total c)) (total c) n e in
+        let (inside, chained, below, sums) =
+        tests-passed (ltb 64 (length l) || beyond l) (chainedTest c) (leb limit (total c)) (total c) n e in
         let (few, known) = neither (ltb 64 (length l)) (beyond l) inside in
         record {
           few = ltb-false 64 (length l) few;

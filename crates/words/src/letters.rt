@@ -1,5 +1,5 @@
 // The letters of a record's word, written from the largest part back: the letter of a point stands at place a + b. Each of the 64
-// places is written once, with a letter or with a zero.
+// places is written, with a letter or with a zero.
 use parts::Exponents;
 ghost use mathlib.Core.Path.{_≡_};
 ghost use Prim.Native.Nat.{_-_, _<_, _≤_};

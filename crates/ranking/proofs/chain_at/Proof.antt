@@ -1,30 +1,16 @@
-use Rattle.ranking.specs.Services.{atPosition}
-use Rattle.ranking.proofs.Answers.{little, little-places, little-scratch, enough}
-use Rattle.ranking.specs.Tables.{filled-table, filled-again}
-use Rattle.counting.specs.TableCount.{asked-no-room, asked-room}
-use borrow.Author.Tests.{not-true, not-false}
+-- `chain_at` meets its contract: with enough lent the table is filled, and what stands at the position is given.
 use mathlib.Core.Path.{_∙_}
+use borrow.Author.Tests.{not-true, not-false}
 use borrow.Author.Needs.{needs}
+use Rattle.counting.specs.TableCount.{asked-no-room, asked-room}
+use Rattle.ranking.specs.Services.{atPosition}
+use Rattle.ranking.proofs.Answers.{filled-table, filled-again, little, little-places, little-scratch, enough}
 use Rattle.ranking.proofs.chain_at.Statement.{statement}
 use Rattle.ranking.proofs.chain_at.Tie as tie
-use Rattle.ranking.proofs.chain_at.Reads as reads
-use Rattle.ranking.proofs.chain_at.Lts as lts
-use Rattle.counting.proofs.fill_counts.Reads as fill-counts-reads
-use Rattle.ranking.proofs.tables.give_at.Reads as give-at-reads
 
--- src/lib.rt:89:9
 returns : tie.Need-returns
 returns c = little _ _ _ (little-places _ _ (c .if1 .taken))
 
--- src/lib.rt:91:9
-fill-counts-requires : tie.Need-fill-counts-requires
-fill-counts-requires c κs = search needs
-
--- src/lib.rt:92:9
-same-length : tie.Need-same-length
-same-length c = search needs
-
--- src/lib.rt:92:9
 returns-2 : tie.Need-returns-2
 returns-2 c =
     let f = c .before .before .before in
@@ -32,7 +18,6 @@ returns-2 c =
     let none = little _ _ _ (little-scratch _ _ (asked-no-room (f .fill-counts .ensures) refused)) in
     (none .0, (none .1 .0, f .fill-counts .ensures .1 .untouched refused ∙ none .1 .1))
 
--- src/lib.rt:94:5
 give-at-requires : tie.Need-give-at-requires
 give-at-requires c κs =
     let f = c .before .before .before .before .before in
@@ -42,15 +27,6 @@ give-at-requires c κs =
       room = f .before .before .if1 .left;
     }
 
--- src/lib.rt:78:1
-same-length-2 : tie.Need-same-length-2
-same-length-2 c = search needs
-
--- src/lib.rt:78:1
-same-length-3 : tie.Need-same-length-3
-same-length-3 c = search needs
-
--- src/lib.rt:78:1
 returns-3 : tie.Need-returns-3
 unfolding atPosition
 returns-3 c =
@@ -67,10 +43,10 @@ chain-at-spec =
     tie.close
     (tie.spec
     returns
-    fill-counts-requires
-    same-length
+    (λ c κs. search needs)
+    (λ c. search needs)
     returns-2
     give-at-requires
-    same-length-2
-    same-length-3
+    (λ c. search needs)
+    (λ c. search needs)
     returns-3)

@@ -19,13 +19,15 @@ unfolding pickCompared
 returns c =
     let r = c .before .before in
     c .in-order .ensures
-    ∙ sym (tested _ _ (r .before .is-good .result) (r .is-good2 .result) (r .before .is-good .ensures) (r .is-good2 .ensures) true (c .before .if1 .taken))
+    ∙ sym (tested _ _ (r .before .is-good .result) (r .is-good2 .result)
+    (r .before .is-good .ensures) (r .is-good2 .ensures) true (c .before .if1 .taken))
 
 returns-2 : tie.Need-returns-2
 unfolding pickCompared
 returns-2 c =
     let r = c .before in
-    sym (tested _ _ (r .before .is-good .result) (r .is-good2 .result) (r .before .is-good .ensures) (r .is-good2 .ensures) false (c .if1 .left))
+    sym (tested _ _ (r .before .is-good .result) (r .is-good2 .result)
+    (r .before .is-good .ensures) (r .is-good2 .ensures) false (c .if1 .left))
 
 pub compare-words-spec : {M : Type 1} → statement M
 compare-words-spec =

@@ -42,14 +42,16 @@ abbrev μ-loop : tie.MeasureT-loop
 returns : tie.Need-returns Inv-loop μ-loop
 returns c =
     let t = c .before .before .before .before in
-    over _ _ _ (t .loop-test .taken) (t .before .loop .inv .0) (t .before .loop .inv .1) _ (c .before .before .with-letter .ensures) (c .enum-told .given .1)
+    over _ _ _ (t .loop-test .taken) (t .before .loop .inv .0) (t .before .loop .inv .1) _
+    (c .before .before .with-letter .ensures) (c .enum-told .given .1)
 
 loop-again : tie.Need-loop-again Inv-loop μ-loop
 loop-again c =
     let t = c .before .before .before .before .before in (
       search needs,
       sym (c .before .more .given .1)
-          ∙ next _ _ _ (t .loop-test .taken) (t .before .loop .inv .0) (t .before .loop .inv .1) _ (c .before .before .before .with-letter .ensures),
+          ∙ next _ _ _ (t .loop-test .taken) (t .before .loop .inv .0) (t .before .loop .inv .1) _
+          (c .before .before .before .with-letter .ensures),
     )
 
 returns-2 : tie.Need-returns-2 Inv-loop μ-loop

@@ -50,6 +50,30 @@ module _ (l s : List ℕ) where
       unfolding lettersOf lettersLeft
       lettered k r dk dr = left-by (written.Letters k) r (answer ∙ rw (e, dk) refl) dr
 
+-- ---- the function
+
+write-letters-requires : tie.Need-write-letters-requires
+write-letters-requires c κs =
+    let told = c .before .before in
+    let j = told .before .before in
+    let room = j .before .before .before in
+    able _ (room .before .before .before .args .places .now) (room .if1 .left)
+    _ (sym (j .judge .ensures) ∙ told .enum-told .given .1) _ (j .before .before .copy .ensures)
+
+returns-2 : tie.Need-returns-2
+returns-2 c =
+    let w = c .before .before in
+    let told = w .before .before .before in
+    let j = told .before .before in
+    lettered _ _ (j .before .before .before .if1 .left) _ (sym (j .judge .ensures) ∙ told .enum-told .given .1)
+    _ _ (w .write-letters .ensures .0) (w .write-letters .ensures .1)
+
+returns-3 : tie.Need-returns-3
+returns-3 c =
+    let j = c .before .before .before in
+    let room = j .before .before .before in
+    refused _ (room .before .before .before .args .places .now) (room .if1 .left) _ (sym (j .judge .ensures) ∙ c .before .number .given .1)
+
 pub write-word-spec : {M : Type 1} → statement M
 write-word-spec =
     tie.close
@@ -60,9 +84,8 @@ write-word-spec =
     (λ c κs. search needs)
     (λ c. search needs)
     (λ c. search needs)
-    (λ c κs. let j = c .before .before .before .before in able _ (j .before .before .before .before .before .before .args .places .now) (j .before .before .before .if1 .left) _ (sym (j .judge .ensures) ∙ c .before .before .enum-told .given .1) _ (j .before .before .copy .ensures))
+    write-letters-requires
     (λ c. search needs)
     (λ c. search needs)
-    (λ c. let j = c .before .before .before .before .before .before .before in let w = c .before .before in
-    lettered _ _ (j .before .before .before .if1 .left) _ (sym (j .judge .ensures) ∙ c .before .before .before .before .before .enum-told .given .1) _ _ (w .write-letters .ensures .0) (w .write-letters .ensures .1))
-    (λ c. let j = c .before .before .before in refused _ (j .before .before .before .before .before .before .args .places .now) (j .before .before .before .if1 .left) _ (sym (j .judge .ensures) ∙ c .before .number .given .1)))
+    returns-2
+    returns-3)

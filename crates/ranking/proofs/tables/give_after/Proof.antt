@@ -1,49 +1,29 @@
-use Rattle.ranking.specs.Walks.{next-fits}
-use Rattle.ranking.specs.Tables.{filled-counts, filled-table, filled-again}
-use native.Mathlib.Omega.{arith}
+-- `give_after` meets its contract: the word's position is counted in the table, which `give_at` then finds there.
 use mathlib.Core.Path.{_∙_}
+use native.Mathlib.Omega.{arith}
 use borrow.Author.Needs.{needs}
+use Rattle.ranking.proofs.Walked.{next-fits}
+use Rattle.ranking.proofs.Answers.{filled-counts, filled-table, filled-again}
 use Rattle.ranking.proofs.tables.give_after.Statement.{statement}
 use Rattle.ranking.proofs.tables.give_after.Tie as tie
-use Rattle.ranking.proofs.tables.give_after.Reads as reads
-use Rattle.ranking.proofs.tables.give_after.Lts as lts
-use Rattle.counting.proofs.fill_counts.Reads as fill-counts-reads
-use Rattle.ranking.proofs.tables.give_at.Reads as give-at-reads
-use Rattle.ranking.proofs.walks.rank_of.Reads as rank-of-reads
 
--- src/tables.rt:80:5
-fill-counts-requires : tie.Need-fill-counts-requires
-fill-counts-requires c κs = search needs
-
--- src/tables.rt:81:9
 rank-of-requires : tie.Need-rank-of-requires
 rank-of-requires c κs =
     let f = c .before .before .before in
     let s = f .before .before .before .before .before in
     record { counts = filled-table (filled-counts (f .fill-counts .ensures) (s .pre .0 .room)) (s .pre .0 .room); member = s .pre .0 .member }
 
--- src/tables.rt:82:16
 add-give-at : tie.Need-add-give-at
 add-give-at c =
     let s = c .before .before .before .before .before .before .before .before .before in
     omega (arith, c .rank-of .ensures, next-fits _ _ (s .fits .n .fits) (s .pre .0 .member))
 
--- src/tables.rt:82:5
 give-at-requires : tie.Need-give-at-requires
 give-at-requires c κs =
     let f = c .before .before .before .before .before .before in
     let s = f .before .before .before .before .before in
     record { counts = filled-table (filled-counts (f .fill-counts .ensures) (s .pre .0 .room)) (s .pre .0 .room); room = s .pre .1 }
 
--- src/tables.rt:72:1
-same-length : tie.Need-same-length
-same-length c = search needs
-
--- src/tables.rt:72:1
-same-length-2 : tie.Need-same-length-2
-same-length-2 c = search needs
-
--- src/tables.rt:72:1
 returns : tie.Need-returns
 returns c =
     let g = c .before .before .before .before in
@@ -59,10 +39,10 @@ pub give-after-spec : {M : Type 1} → statement M
 give-after-spec =
     tie.close
     (tie.spec
-    fill-counts-requires
+    (λ c κs. search needs)
     rank-of-requires
     add-give-at
     give-at-requires
-    same-length
-    same-length-2
+    (λ c. search needs)
+    (λ c. search needs)
     returns)

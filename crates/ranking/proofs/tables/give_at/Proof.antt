@@ -1,85 +1,24 @@
-use Rattle.chains.specs.Listing.{count}
-use Prim.Native.Nat.{_≤_, _<_}
+-- `give_at` meets its contract: the test against the count decides as the outcome does, and below the count the word at the position
+-- is read as the chain there.
 use mathlib.Core.Path.{_∙_}
-use Rattle.ranking.specs.Outcomes.{standing-past}
-use Rattle.ranking.proofs.Answers.{refused-found, below-found, below-not-refused, below-left}
+use Prim.Native.Nat.{_≤_, _<_}
 use native.Mathlib.Omega.{arith}
 use borrow.Author.Needs.{needs}
+use Rattle.chains.specs.Listing.{count}
+use Rattle.ranking.specs.Outcomes.{standing-past}
+use Rattle.ranking.proofs.Answers.{refused-found, below-found, below-not-refused, below-left}
 use Rattle.ranking.proofs.tables.give_at.Statement.{statement}
 use Rattle.ranking.proofs.tables.give_at.Tie as tie
-use Rattle.ranking.proofs.tables.give_at.Reads as reads
-use Rattle.ranking.proofs.tables.give_at.Lts as lts
-use Rattle.ranking.proofs.tables.clear.Reads as clear-reads
-use Rattle.ranking.proofs.walks.count_in.Reads as count-in-reads
-use Rattle.ranking.proofs.walks.word_at.Reads as word-at-reads
-use Rattle.words.proofs.word_parts.Reads as word-parts-reads
 
--- src/tables.rt:58:8
-count-in-requires : tie.Need-count-in-requires
-count-in-requires c κs = search needs
-
--- src/tables.rt:59:9
-clear-requires : tie.Need-clear-requires
-clear-requires c κs = search needs
-
--- src/tables.rt:60:9
-same-length : tie.Need-same-length
-same-length c = search needs
-
--- src/tables.rt:60:9
 returns : tie.Need-returns
 returns c =
-    let t = c .before .before .before .before in
+    let q = c .before .before in
+    let t = q .before .before in
     let s = t .before .before .before .before .before in
     let past : count (s .args .n) ≤ s .args .i = omega (arith, t .before .count-in .ensures, t .if1 .taken) in
-    let found = refused-found _ (s .args .refusal) (s .args .places .now) (standing-past (s .args .refusal) (s .args .n) (s .args .i) past) in
-    (found .0, (found .1, c .before .before .clear .ensures))
+    let (answer, left) = refused-found _ _ (s .args .places .now) _ (standing-past _ _ _ past) (q .refuse .ensures .0) in
+    (answer, (left, q .refuse .ensures .1))
 
--- src/tables.rt:63:48
-slice-aggregate-word-at : tie.Need-slice-aggregate-word-at
-slice-aggregate-word-at c = search needs
-
--- src/tables.rt:63:9
-word-at-requires : tie.Need-word-at-requires
-word-at-requires c κs = search needs
-
--- src/tables.rt:64:5
-clear-requires-2 : tie.Need-clear-requires-2
-clear-requires-2 c κs = search needs
-
--- src/tables.rt:65:29
-sub-word-parts : tie.Need-sub-word-parts
-sub-word-parts c = search needs
-
--- src/tables.rt:65:29
-part-word-parts-start : tie.Need-part-word-parts-start
-part-word-parts-start c = search needs
-
--- src/tables.rt:65:29
-part-word-parts-end : tie.Need-part-word-parts-end
-part-word-parts-end c = search needs
-
--- src/tables.rt:65:11
-word-parts-requires : tie.Need-word-parts-requires
-word-parts-requires c κs = search needs
-
--- src/tables.rt:66:31
-enum-known-k : tie.Need-enum-known-k
-enum-known-k c = search needs
-
--- src/tables.rt:67:25
-enum-known-number : tie.Need-enum-known-number
-enum-known-number c = search needs
-
--- src/tables.rt:52:1
-same-length-2 : tie.Need-same-length-2
-same-length-2 c = search needs
-
--- src/tables.rt:52:1
-same-length-3 : tie.Need-same-length-3
-same-length-3 c = search needs
-
--- src/tables.rt:52:1
 returns-2 : tie.Need-returns-2
 returns-2 c =
     let p = c .before .before .before .before .before in
@@ -90,18 +29,9 @@ returns-2 c =
     let places = s .args .places .now in
     let below : s .args .i < count (s .args .n) = omega (arith, b .before .count-in .ensures, b .if1 .left) in (
       below-found _ _ _ below (s .fits .n .fits) _ _ places (w .word-at .ensures) (s .pre .room) _ (p .word-parts .ensures .0) _ _ (c .before .k .given .1),
-      (p .word-parts .ensures .1 ∙ below-left _ _ _ below (s .fits .n .fits) _ _ places (w .word-at .ensures) (s .pre .room) (p .word-parts .result), d .clear2 .ensures),
+      (p .word-parts .ensures .1 ∙ below-left _ _ _ below (s .fits .n .fits) _ _ places (w .word-at .ensures) (s .pre .room) (p .word-parts .result), d .clear .ensures),
     )
 
--- src/tables.rt:52:1
-same-length-4 : tie.Need-same-length-4
-same-length-4 c = search needs
-
--- src/tables.rt:52:1
-same-length-5 : tie.Need-same-length-5
-same-length-5 c = search needs
-
--- src/tables.rt:52:1
 returns-3 : tie.Need-returns-3
 returns-3 c =
     let p = c .before .before .before .before .before in
@@ -111,28 +41,29 @@ returns-3 c =
     let s = b .before .before .before .before .before in
     let places = s .args .places .now in
     let below : s .args .i < count (s .args .n) = omega (arith, b .before .count-in .ensures, b .if1 .left) in
-    absurd (below-not-refused (s .args .refusal) _ _ below (s .fits .n .fits) _ _ places (w .word-at .ensures) (s .pre .room) _ (p .word-parts .ensures .0) _ (c .before .number .given .1))
+    absurd
+    (below-not-refused (s .args .refusal) _ _ below (s .fits .n .fits) _ _ places (w .word-at .ensures) (s .pre .room) _ (p .word-parts .ensures .0) _ (c .before .number .given .1))
 
 pub give-at-spec : {M : Type 1} → statement M
 give-at-spec =
     tie.close
     (tie.spec
-    count-in-requires
-    clear-requires
-    same-length
+    (λ c κs. search needs)
+    (λ c κs. search needs)
+    (λ c. search needs)
     returns
-    slice-aggregate-word-at
-    word-at-requires
-    clear-requires-2
-    sub-word-parts
-    part-word-parts-start
-    part-word-parts-end
-    word-parts-requires
-    enum-known-k
-    enum-known-number
-    same-length-2
-    same-length-3
+    (λ c. search needs)
+    (λ c κs. search needs)
+    (λ c κs. search needs)
+    (λ c. search needs)
+    (λ c. search needs)
+    (λ c. search needs)
+    (λ c κs. search needs)
+    (λ c. search needs)
+    (λ c. search needs)
+    (λ c. search needs)
+    (λ c. search needs)
     returns-2
-    same-length-4
-    same-length-5
+    (λ c. search needs)
+    (λ c. search needs)
     returns-3)

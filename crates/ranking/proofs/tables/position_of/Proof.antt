@@ -1,19 +1,10 @@
-use Rattle.ranking.specs.Tables.{filled-counts, filled-table, filled-again}
+-- `position_of` meets its contract: the table is filled where there is room, and zeroing it leaves what zeroing the scratch would.
 use mathlib.Core.Path.{_∙_}
 use borrow.Author.Needs.{needs}
+use Rattle.ranking.proofs.Answers.{filled-counts, filled-table, filled-again}
 use Rattle.ranking.proofs.tables.position_of.Statement.{statement}
 use Rattle.ranking.proofs.tables.position_of.Tie as tie
-use Rattle.ranking.proofs.tables.position_of.Reads as reads
-use Rattle.ranking.proofs.tables.position_of.Lts as lts
-use Rattle.counting.proofs.fill_counts.Reads as fill-counts-reads
-use Rattle.ranking.proofs.tables.clear.Reads as clear-reads
-use Rattle.ranking.proofs.walks.rank_of.Reads as rank-of-reads
 
--- src/tables.rt:27:5
-fill-counts-requires : tie.Need-fill-counts-requires
-fill-counts-requires c κs = search needs
-
--- src/tables.rt:28:9
 rank-of-requires : tie.Need-rank-of-requires
 rank-of-requires c κs =
     let s = c .before .before .before .before .before .before .before in
@@ -22,15 +13,6 @@ rank-of-requires c κs =
       member = s .pre .member;
     }
 
--- src/tables.rt:29:5
-clear-requires : tie.Need-clear-requires
-clear-requires c κs = search needs
-
--- src/tables.rt:22:1
-same-length : tie.Need-same-length
-same-length c = search needs
-
--- src/tables.rt:22:1
 returns : tie.Need-returns
 returns c =
     let s = c .before .before .before .before .before .before .before .before .before .before .before .before in
@@ -39,4 +21,9 @@ returns c =
 
 pub position-of-spec : {M : Type 1} → statement M
 position-of-spec =
-    tie.close (tie.spec fill-counts-requires rank-of-requires clear-requires same-length returns)
+    tie.close (tie.spec
+    (λ c κs. search needs)
+    rank-of-requires
+    (λ c κs. search needs)
+    (λ c. search needs)
+    returns)

@@ -17,7 +17,8 @@ abbrev μ-loop : tie.MeasureT-loop
 loop-again : tie.Need-loop-again Inv-loop μ-loop
 loop-again c =
     let inv = c .before .loop .inv in
-    (search needs, search needs, simp length-set (omega arith), run-more _ _ _ (c .before .before .args .places .now) _ (inv .0) (omega arith) (inv .3))
+    let more = run-more _ _ _ (c .before .before .args .places .now) _ (inv .0) (omega arith) (inv .3) in
+    (search needs, search needs, simp length-set (omega arith), more)
 
 returns : tie.Need-returns Inv-loop μ-loop
 returns c =

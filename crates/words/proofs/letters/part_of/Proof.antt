@@ -24,4 +24,5 @@ part-of-spec =
     (tie.spec
     (λ c κs. search needs)
     (λ c κs. search needs)
-    (λ c. let s = c .before .before .before in found _ _ _ _ (s .pre .0) (s .pre .1) (c .before .value-of .ensures) (c .exponents-of .ensures)))
+    (λ c. let s = c .before .before .before in
+    found _ _ _ _ (s .pre .0) (s .pre .1) (c .before .value-of .ensures) (c .exponents-of .ensures)))

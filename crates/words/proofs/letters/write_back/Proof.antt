@@ -100,7 +100,8 @@ write-back-spec =
     (λ c. (c .before .before .before .pre, refl, refl))
     (λ c. search needs)
     (λ c. search needs)
-    (λ c κs. let t = c .before in (t .before .loop .inv .0 .is-parts, number-known _ _ _ _ _ (t .before .loop .inv .0) (t .loop-test .taken)))
+    (λ c κs. let t = c .before in
+    (t .before .loop .inv .0 .is-parts, number-known _ _ _ _ _ (t .before .loop .inv .0) (t .loop-test .taken)))
     write-marked-requires
     (λ c. search needs)
     (λ c. search needs)

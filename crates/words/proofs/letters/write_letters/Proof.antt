@@ -116,7 +116,8 @@ returns-2 c =
     let f = q .before .before in
     let s = f .before .before .before .before in (
       sym (letters _ _ _ (s .pre) (f .if1 .left) _ (q .part-of .ensures)),
-      whole _ _ _ (s .pre) (f .if1 .left) _ (q .part-of .ensures) _ _ refl (b .before .before .before .before .fill2 .ensures) _ (b .write-back .ensures),
+      whole _ _ _ (s .pre) (f .if1 .left) _ (q .part-of .ensures) _ _ refl
+          (b .before .before .before .before .fill2 .ensures) _ (b .write-back .ensures),
     )
 
 pub write-letters-spec : {M : Type 1} → statement M
@@ -131,8 +132,10 @@ write-letters-spec =
     (λ c. omega (arith, placed (c .before)))
     (λ c. omega (arith, placed (c .before), c .before .before .before .before .before .before .before .pre .room))
     (λ c. omega (arith, placed (c .before .before)))
-    (λ c κs. simp length-set (omega (arith, placed (c .before .before), c .before .before .before .before .before .before .before .before .pre .room)))
+    (λ c κs. simp length-set
+    (omega (arith, placed (c .before .before), c .before .before .before .before .before .before .before .before .pre .room)))
     write-back-requires
     (λ c. omega (arith, placed (c .before .before .before .before .before .before .before .before .before)))
-    (λ c. c .before .before .write-back .kept .1 .1 .1 .0 ∙ c .before .before .before .before .before .before .fill2 .kept .0 ∙ simp length-set)
+    (λ c. c .before .before .write-back .kept .1 .1 .1 .0
+    ∙ c .before .before .before .before .before .before .fill2 .kept .0 ∙ simp length-set)
     returns-2)

@@ -22,14 +22,16 @@ module _ (q p : Part) (l : List ℕ) (way : OnTheWay q p (length l)) where
       let zeros : place p - (q .a + p .b) ≡ p .a - q .a = omega arith in
       ek
       ∙ ap (λ s. run (q .a + p .b) (place p) 0 s) em
-      ∙ between-join l (place q) (q .a + p .b) (replicate (q .a + p .b - place q) 2) (omega arith) (omega arith) (length-replicate (q .a + p .b - place q) 2)
+      ∙ between-join l (place q) (q .a + p .b) (replicate (q .a + p .b - place q) 2) (omega arith) (omega arith)
+      (length-replicate (q .a + p .b - place q) 2)
       (place p) (replicate (place p - (q .a + p .b)) 0) (omega arith) (omega arith)
       ∙ ap₂ (λ s t. between (place q) (place p) (replicate s 2 ++ replicate t 0) l) twos zeros
 
 returns : tie.Need-returns
 returns c =
     let first = c .before .before .before .before .before .before in
-    both-runs _ _ _ (first .before .before .before .before .before .before .before .pre) _ _ (first .fill .ensures) (c .before .before .fill2 .ensures)
+    both-runs _ _ _ (first .before .before .before .before .before .before .before .pre)
+    _ _ (first .fill .ensures) (c .before .before .fill2 .ensures)
 
 pub write-path-spec : {M : Type 1} → statement M
 write-path-spec =

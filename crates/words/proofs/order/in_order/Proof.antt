@@ -66,6 +66,22 @@ Inv-loop u v i₀ i = (i ≤ length u) × (i ≤ length v) × (orderOf u v ≡ o
 abbrev μ-loop : tie.MeasureT-loop
 μ-loop u v i₀ i = length u - i
 
+returns-2 : tie.Need-returns-2 Inv-loop μ-loop
+returns-2 c =
+    let v = c .before .before .before in
+    u-less _ _ _ (v .before .before .loop .inv .2) (v .before .loop-test .taken) (v .if1 .left) (c .if2 .taken)
+
+returns-3 : tie.Need-returns-3 Inv-loop μ-loop
+returns-3 c =
+    let v = c .before .before .before .before in
+    v-less _ _ _ (v .before .before .loop .inv .2) (v .before .loop-test .taken) (v .if1 .left) (c .if3 .taken)
+
+loop-again : tie.Need-loop-again Inv-loop μ-loop
+loop-again c =
+    let v = c .before .before .before .before in
+    let same = equal _ _ _ (v .before .before .loop .inv .2) (v .before .loop-test .taken) (v .if1 .left) (omega arith) in
+    (search needs, search needs, same)
+
 pub in-order-spec : {M : Type 1} → statement M
 in-order-spec =
     tie.close
@@ -74,10 +90,10 @@ in-order-spec =
     (λ c. u-longer _ _ _ (c .before .before .loop .inv .2) (c .before .loop-test .taken) (c .if1 .taken))
     (λ c. search needs)
     (λ c. search needs)
-    (λ c. let t = c .before .before .before .before in u-less _ _ _ (t .before .loop .inv .2) (t .loop-test .taken) (c .before .before .before .if1 .left) (c .if2 .taken))
-    (λ c. let t = c .before .before .before .before .before in v-less _ _ _ (t .before .loop .inv .2) (t .loop-test .taken) (c .before .before .before .before .if1 .left) (c .if3 .taken))
+    returns-2
+    returns-3
     (λ c. search needs)
     (λ c. search needs)
-    (λ c. (search needs, search needs, let t = c .before .before .before .before .before in equal _ _ _ (t .before .loop .inv .2) (t .loop-test .taken) (c .before .before .before .before .if1 .left) (omega arith)))
+    loop-again
     (λ c. both-end _ _ _ (c .before .before .loop .inv .2) (c .before .loop-test .left) (omega arith))
     (λ c. v-longer _ _ _ (c .before .before .loop .inv .2) (c .before .loop-test .left) (omega arith)))

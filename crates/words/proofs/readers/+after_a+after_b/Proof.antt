@@ -56,16 +56,20 @@ other f (suc (suc (suc (suc x)))) w h n t = refl
 
 -- What a reader answers, r, by what the reader that it hands the rest to answers.
 module _ (l : Word) (left : ℕ) (h : left ≤ length l) (s : left ≡ 0 → ⊥) where
-  on-low : (f : Bool) (r : ℕ) → getD l (length l - left) 0 < 2 → r ≡ one-if (reads false (rest l (left - 1))) → r ≡ one-if (reads f (rest l left))
+  on-low : (f : Bool) (r : ℕ) → getD l (length l - left) 0 < 2 → r ≡ one-if (reads false (rest l (left - 1)))
+      → r ≡ one-if (reads f (rest l left))
   on-low f r e d = rw (next l left h s, low f (getD l (length l - left) 0) (rest l (left - 1)) e) d
 
-  on-3 : (f : Bool) (r : ℕ) → getD l (length l - left) 0 ≡ 3 → r ≡ one-if (reads true (rest l (left - 1))) → r ≡ one-if (reads f (rest l left))
+  on-3 : (f : Bool) (r : ℕ) → getD l (length l - left) 0 ≡ 3 → r ≡ one-if (reads true (rest l (left - 1)))
+      → r ≡ one-if (reads f (rest l left))
   unfolding reads one-if
   on-3 f r e d = rw (next l left h s, e) d
 
-  on-2 : (r : ℕ) → getD l (length l - left) 0 ≡ 2 → (left ≡ 1 → ⊥) → r ≡ one-if (reads true (rest l (left - 1))) → r ≡ one-if (reads true (rest l left))
+  on-2 : (r : ℕ) → getD l (length l - left) 0 ≡ 2 → (left ≡ 1 → ⊥) → r ≡ one-if (reads true (rest l (left - 1)))
+      → r ≡ one-if (reads true (rest l left))
   unfolding reads someLeft one-if
-  on-2 r e n d = rw (next l left h s, e, next l (left - 1) (omega arith) (omega arith)) (rw (next l (left - 1) (omega arith) (omega arith)) at d)
+  on-2 r e n d = rw (next l left h s, e, next l (left - 1) (omega arith) (omega arith))
+      (rw (next l (left - 1) (omega arith) (omega arith)) at d)
 
   on-last-2 : getD l (length l - left) 0 ≡ 2 → left ≡ 1 → 0 ≡ one-if (reads true (rest l left))
   unfolding reads someLeft one-if
@@ -128,10 +132,12 @@ unfolding one-if
     (λ c. search needs)
     (λ c κs. search needs)
     (λ c. let some = c .before .before .before .before in let s = some .before in
-    on-2 (s .args .letters .now .now) _ (s .pre .1) (some .if1 .left) _ (c .before .before .match .keys1) (c .before .if2 .left) (c .after-b .ensures))
+    on-2 (s .args .letters .now .now) _ (s .pre .1) (some .if1 .left) _
+    (c .before .before .match .keys1) (c .before .if2 .left) (c .after-b .ensures))
     (λ c. let some = c .before .before .before in let s = some .before in
     on-3 (s .args .letters .now .now) _ (s .pre .1) (some .if1 .left) true _ (c .before .match .keys2) (c .after-b2 .ensures))
     (λ c. let some = c .before .before .before .before in let s = some .before in
     on-low (s .args .letters .now .now) _ (s .pre .1) (some .if1 .left) true _ (c .before .if3 .taken) (c .after-a .ensures))
     (λ c. let some = c .before .before .before in let s = some .before in
-    on-other (s .args .letters .now .now) _ (s .pre .1) (some .if1 .left) true (c .if3 .left) (c .before .match .rest .1) (λ _. c .before .match .rest .0 .1)))
+    on-other (s .args .letters .now .now) _ (s .pre .1) (some .if1 .left) true (c .if3 .left)
+    (c .before .match .rest .1) (λ _. c .before .match .rest .0 .1)))

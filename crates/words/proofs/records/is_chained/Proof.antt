@@ -35,7 +35,8 @@ pair x y u v r eu ev h told = same r (ltb v u && eqb (u % v) 0) (Iff·trans (rw 
 entry : (l : List ℕ) (i : ℕ) → beyond l ≡ false → i < length l → (t : List ℕ) → t ≡ parts → (x : ℕ) → x ≡ getD t (getD l i 0) 0
     → x ≡ value (partAt (getD l i 0))
 unfolding InTable
-entry l i known h t e x d = d ∙ ap (λ (s : List ℕ). getD s (getD l i 0) 0) e ∙ sym (part-value (getD l i 0) (in-table l .0 known i h))
+entry l i known h t e x d =
+    d ∙ ap (λ (s : List ℕ). getD s (getD l i 0) 0) e ∙ sym (part-value (getD l i 0) (in-table l .0 known i h))
 
 -- One pair more: r is the answer for the numbers before i and at i.
 module _ (l : List ℕ) (i : ℕ) (h : 0 < i) (k : i < length l) (known : beyond l ≡ false)
@@ -50,7 +51,8 @@ module _ (l : List ℕ) (i : ℕ) (h : 0 < i) (k : i < length l) (known : beyond
       let at : suc (i - 1) ≡ i = omega arith in
       let here = drop-cons l i 0 k in
       let two : drop (i - 1) l ≡ getD l (i - 1) 0 ∷ getD l i 0 ∷ drop (suc i) l = rw (drop-cons l (i - 1) 0 (omega arith), at, here) refl in
-      let told-here = pair x y (value p) (value q) r (entry l (i - 1) known (omega arith) t e x ex) (entry l i known k t e y ey) (value-pos q) told in
+      let ep = entry l (i - 1) known (omega arith) t e x ex in
+      let told-here = pair x y (value p) (value q) r ep (entry l i known k t e y ey) (value-pos q) told in
       left
       ∙ ap (λ w. chainedTest (recordParts w)) two
       ∙ ap₂ (λ b w. b && chainedTest (recordParts w)) (sym told-here) (sym here)
@@ -74,6 +76,26 @@ Inv-loop table numbers i₀ i = (0 < i) × (chainedTest (recordParts numbers) �
 abbrev μ-loop : tie.MeasureT-loop
 μ-loop table numbers i₀ i = length numbers - i
 
+returns : tie.Need-returns Inv-loop μ-loop
+returns c =
+    let m = c .before in
+    let x = m .before .before .before in
+    let t = x .before .before in
+    let s = t .before .before .before .before in
+    failed _ _ (t .before .loop .inv .0) (t .loop-test .taken) (s .pre .1) (t .before .loop .inv .1) _ (s .pre .0)
+    _ _ (x .value-of .ensures) (m .before .value-of2 .ensures) _ (m .is-proper-multiple .ensures) (not-true _ (c .if1 .taken))
+
+loop-again : tie.Need-loop-again Inv-loop μ-loop
+loop-again c =
+    let m = c .before in
+    let x = m .before .before .before in
+    let t = x .before .before in
+    let s = t .before .before .before .before in
+    let more =
+    passed _ _ (t .before .loop .inv .0) (t .loop-test .taken) (s .pre .1) (t .before .loop .inv .1) _ (s .pre .0)
+    _ _ (x .value-of .ensures) (m .before .value-of2 .ensures) _ (m .is-proper-multiple .ensures) (not-false _ (c .if1 .left)) in
+    (search needs, more)
+
 pub is-chained-spec : {M : Type 1} → statement M
 is-chained-spec =
     tie.close
@@ -87,13 +109,8 @@ is-chained-spec =
     (λ c. search needs)
     (λ c κs. search needs)
     (λ c κs. search needs)
-    (λ c. let t = c .before .before .before .before .before .before in let s = t .before .before .before .before in let m = c .before in
-    failed _ _ (t .before .loop .inv .0) (t .loop-test .taken) (s .pre .1) (t .before .loop .inv .1) _ (s .pre .0) _ _ (m .before .before .before .value-of .ensures) (m .before .value-of2 .ensures) _ (m .is-proper-multiple .ensures) (not-true _ (c .if1 .taken)))
+    returns
     (λ c. search needs)
     (λ c. search needs)
-    (λ c. (
-      search needs,
-      let t = c .before .before .before .before .before .before in let s = t .before .before .before .before in let m = c .before in
-          passed _ _ (t .before .loop .inv .0) (t .loop-test .taken) (s .pre .1) (t .before .loop .inv .1) _ (s .pre .0) _ _ (m .before .before .before .value-of .ensures) (m .before .value-of2 .ensures) _ (m .is-proper-multiple .ensures) (not-false _ (c .if1 .left)),
-    ))
+    loop-again
     (λ c. sym (c .before .loop .inv .1 ∙ all-passed _ (simp length-drop (omega arith)))))

@@ -57,6 +57,29 @@ module _ (l : List ℕ) (o : Bool) (eo : o ≡ (ltb 64 (length l) || beyond l)) 
           go true d f = let z : _≡_ {A = ℕ} 0 1 = cc in absurd (omega arith)
           go false d f = rw (judged, le-leb limit (sumAt table l) (ltb-false (sumAt table l) limit d))
 
+-- ---- the function
+
+returns-2 : tie.Need-returns-2
+returns-2 c =
+    let i = c .before .before in
+    unchained _ _ (i .before .is-outside .ensures) (i .if1 .left) _ (c .before .is-chained .ensures) (not-true _ (c .if2 .taken))
+
+returns-3 : tie.Need-returns-3
+returns-3 c =
+    let s = c .before .before .before in
+    let t = s .before .before in
+    let i = t .before in
+    fits _ _ (i .before .is-outside .ensures) (i .if1 .left) _ (t .is-chained .ensures) (not-false _ (s .before .if2 .left))
+    _ (i .before .before .before .before .pre) _ (sym (c .before .n .given .1) ∙ s .sum-of .ensures)
+
+returns-4 : tie.Need-returns-4
+returns-4 c =
+    let s = c .before .before in
+    let t = s .before .before in
+    let i = t .before in
+    over _ _ (i .before .is-outside .ensures) (i .if1 .left) _ (t .is-chained .ensures) (not-false _ (s .before .if2 .left))
+    _ (i .before .before .before .before .pre) (sym (c .enum-told .given .1) ∙ s .sum-of .ensures)
+
 pub judge-spec : {M : Type 1} → statement M
 judge-spec =
     tie.close
@@ -64,13 +87,9 @@ judge-spec =
     (λ c κs. search needs)
     (λ c. outside _ _ (c .before .is-outside .ensures) (c .if1 .taken))
     (λ c κs. (c .before .before .before .before .pre, known _ _ (c .before .is-outside .ensures) (c .if1 .left)))
-    (λ c. unchained _ _ (c .before .before .before .is-outside .ensures) (c .before .before .if1 .left) _ (c .before .is-chained .ensures) (not-true _ (c .if2 .taken)))
+    returns-2
     (λ c κs. search needs)
     (λ c. search needs)
     (λ c. search needs)
-    (λ c. let t = c .before .before .before .before .before in
-    fits _ _ (t .before .before .is-outside .ensures) (t .before .if1 .left) _ (t .is-chained .ensures) (not-false _ (c .before .before .before .before .if2 .left)) _ (t .before .before .before .before .before .pre)
-    _ (sym (c .before .n .given .1) ∙ c .before .before .before .sum-of .ensures))
-    (λ c. let t = c .before .before .before .before in
-    over _ _ (t .before .before .is-outside .ensures) (t .before .if1 .left) _ (t .is-chained .ensures) (not-false _ (c .before .before .before .if2 .left)) _ (t .before .before .before .before .before .pre)
-    (sym (c .enum-told .given .1) ∙ c .before .before .sum-of .ensures)))
+    returns-3
+    returns-4)

@@ -1,0 +1,118 @@
+-- From the answers of the services to the reply.
+--
+-- In this order: a reply with zeros after it; the word or the record of a line in an array; enough is lent to a service; a chain that a
+-- service gives.
+use mathlib.Core.Path.{_≡_, refl, sym, _∙_}
+use mathlib.Core.Bool.{false}
+use mathlib.Core.List.{List, [], map}
+use Prim.Native.Nat.{ℕ, _+_, _-_, _*_, _≤_}
+use native.Mathlib.Nat.{sub-zero}
+use native.Mathlib.Omega.{arith}
+use borrow.Author.Tests.{le-ltb}
+use lib.ListN.{length, take, length-append, length-drop, length-map}
+use lib.Seq.{take-append-seam}
+use Rattle.chains.specs.Chains.{Part}
+use Rattle.grid.specs.Grid.{scratchSize}
+use Rattle.lent.specs.Lent.{zeros, filled}
+use Rattle.parts.specs.Parts.{placeOf}
+use Rattle.ranking.specs.Services.{Outcome, refused, gives, answerOf, placesLeft, pick, tooLittle, lent, pickList, scratchLeft}
+use Rattle.ranking.specs.RoundTrips.{numbers-left}
+use Rattle.ranking.specs.declared.Found.{Found}
+use Rattle.ranking.specs.declared.Found.the-variants as found
+use Rattle.digits.specs.Digits.{digitsOf}
+use Rattle.digits.specs.DigitLaws.{length-digits}
+use Rattle.lines.specs.Kinds.{Kind, bytesIn}
+use Rattle.lines.specs.Lines.{field, fieldsIn, written, atStart}
+use Rattle.lines.specs.LineLaws.{Fit, written-fit}
+use Rattle.frames.specs.Put.{putAt, at-start, put-filled}
+use Rattle.frames.specs.ReplyDigits.{chainDigits}
+use Rattle.frames.specs.Replies.{refusedAs, servedWith, digitsIn, chainReply, repliedOf}
+use Rattle.frames.specs.Calls.{Told, Handled, partsIn, foundReply}
+use Rattle.frames.specs.declared.Replied.{Replied}
+use Rattle.frames.specs.declared.Replied.the-variants as replied
+
+-- ---- a reply with zeros after it
+
+-- k digits were put at the start of l₀, which left l, then zeros up to 514, which left m.
+module _ (k : ℕ) (l₀ l m : List ℕ) (room : 514 ≤ length l₀) (short : k ≤ 514) (rest : m ≡ putAt k (zeros (514 - k)) l) where
+  stand : (ds : List ℕ) → length ds ≡ k → l ≡ putAt 0 ds l₀ → m ≡ filled 514 ds l₀
+  stand ds n p = put-filled 514 k ds l₀ l m (at-start k ds l₀ l n p) short room rest
+
+  pub told-served : (ds : List ℕ) → length ds ≡ k → l ≡ putAt 0 ds l₀ → Told (servedWith ds) (replied.Digits k) l₀ m
+  unfolding repliedOf digitsIn
+  told-served ds n p = record { answer = rw n; digits = stand ds n p }
+
+  pub told-refused : (number : ℕ) → k ≡ 2 → l ≡ putAt 0 (digitsOf 2 number) l₀ → Told (refusedAs number) (replied.Refused number) l₀ m
+  unfolding repliedOf digitsIn
+  told-refused number e p = record { answer = refl; digits = stand (digitsOf 2 number) (length-digits 2 number ∙ sym e) p }
+
+-- ---- the word or the record of a line
+
+-- k fields of `width` bytes were read from the line into l, which held `entry` before.
+module _ (width : ℕ) (line entry l : List ℕ) (k : ℕ) (e : k ≡ length (written width line entry)) (f : l ≡ atStart (written width line entry) entry) where
+  -- The array keeps its length, so all of them stand in it.
+  pub read-room : length l ≡ length entry → k ≤ length entry
+  unfolding atStart
+  read-room h = omega (arith, simp (f, length-append, length-drop) at h)
+
+  -- They are those that the line's count asks for.
+  pub read-all : (x : Kind) → Fit line x → bytesIn x (field line 1 1) ≡ 2 + width * field line 1 1 → 255 ≤ length entry → take (k - 0) l ≡ fieldsIn width line
+  unfolding atStart
+  read-all x fit h g = rw (sub-zero, f, e, take-append-seam) (written-fit width line entry x fit h g)
+
+-- ---- enough is lent to a service
+
+module _ (s p : List ℕ) (numbers : scratchSize ≤ length s) (room : length p ≡ 64) where
+  enough : tooLittle s p ≡ false
+  unfolding tooLittle
+  enough = rw (le-ltb (length s) scratchSize numbers, le-ltb (length p) 64 (omega arith))
+
+  -- Its outcome is its own, and it zeroes the scratch.
+  pub own-outcome : (o : Outcome) → lent s p o ≡ o
+  unfolding lent pick
+  own-outcome o = rw enough
+
+  pub scratch-zeroed : (s′ : List ℕ) → s′ ≡ scratchLeft (tooLittle s p) s → s′ ≡ filled scratchSize [] s
+  unfolding scratchLeft pickList
+  scratch-zeroed s′ e = rw enough at e
+
+-- ---- a chain that a service gives
+
+-- The places keep their number, so all part numbers stand there.
+pub chain-left : (n : ℕ) (c : List Part) (p p′ : List ℕ) → p′ ≡ placesLeft (gives n c) p → length p′ ≡ 64
+    → (length c ≤ 64) × (take (length c) p′ ≡ map placeOf c)
+unfolding placesLeft filled
+chain-left n c p p′ e h =
+    (omega (arith, length-map c placeOf, simp (e, length-append) at h), rw e (numbers-left n c p))
+
+module _ (f : Found) (places : List ℕ) where
+  pub found-chain : (n i k : ℕ) → f ≡ found.Chain n i k → (partsIn f ≡ k) × (foundReply f places ≡ servedWith (chainDigits n i (take (k - 0) places)))
+  unfolding partsIn foundReply
+  found-chain n i k e = rw (e, sub-zero k) (refl, refl)
+
+  pub found-refused : (r : ℕ) → f ≡ found.Refused r → foundReply f places ≡ refusedAs r
+  unfolding foundReply
+  found-refused r e = rw e
+
+-- The answer and the places make the reply to the service's outcome.
+found-reply : (o : Outcome) (p p′ : List ℕ) → p′ ≡ placesLeft o p → length p′ ≡ 64
+    → (partsIn (answerOf o) ≤ 64) × (foundReply (answerOf o) p′ ≡ chainReply o)
+unfolding partsIn foundReply answerOf chainReply
+found-reply (refused r) p p′ e h = (omega arith, refl)
+found-reply (gives n c) p p′ e h =
+    let (room, numbers) = chain-left n c p p′ e h in
+    (room, rw numbers)
+
+-- A service with the outcome o was lent the scratch s and the places p. It answered f and left p′ in the places.
+module _ (o : Outcome) (f : Found) (s p p′ : List ℕ) (numbers : scratchSize ≤ length s) (room : length p ≡ 64) where
+  module _ (answer : f ≡ answerOf (lent s p o)) (left : p′ ≡ placesLeft (lent s p o) p) (same : length p′ ≡ 64) where
+    as-outcome : (partsIn f ≤ 64) × (foundReply f p′ ≡ chainReply o)
+    as-outcome = rw (answer, own-outcome s p numbers room o) (found-reply o p p′ (rw own-outcome at left) same)
+
+    pub found-fits : partsIn f ≤ 64
+    found-fits = as-outcome .0
+
+    pub found-handled : (s′ : List ℕ) {r : Replied} {out out′ : List ℕ} → s′ ≡ scratchLeft (tooLittle s p) s → Told (foundReply f p′) r out out′
+        → Handled (chainReply o) r s s′ out out′
+    found-handled s′ e told =
+        record { told = rw (as-outcome .1) at told; zeroed = scratch-zeroed s p numbers room s′ e }

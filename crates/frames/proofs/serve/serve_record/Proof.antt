@@ -1,0 +1,133 @@
+-- `serve_record` replies with the record's own numbers: they are the part numbers of the chain that reading the record finds, and so at
+-- most 64.
+use mathlib.Core.Path.{_≡_, refl, ap}
+use mathlib.Core.List.{List}
+use Prim.Native.Nat.{ℕ, _≤_}
+use native.Mathlib.Omega.{arith}
+use borrow.Author.Needs.{needs}
+use borrow.Author.Tests.{le-ltb}
+use lib.Dec.{ltb}
+use lib.ListN.{length, length-map}
+use Rattle.chains.specs.Bounds.{parts-bound}
+use Rattle.grid.specs.Grid.{scratchSize}
+use Rattle.parts.specs.Parts.{placeOf}
+use Rattle.ranking.specs.Services.{Outcome, refused, gives, pick, pickList, lentScratch, scratchLeft, placedOf, ofRecord}
+use Rattle.ranking.specs.Outcomes.{record-gives}
+use Rattle.ranking.specs.declared.Placed.{Placed}
+use Rattle.ranking.specs.declared.Placed.the-variants as placed
+use Rattle.lines.specs.Kinds.{recording, bytesIn}
+use Rattle.frames.specs.ReplyDigits.{chainDigits}
+use Rattle.frames.specs.Replies.{Reply, refusedAs, servedWith, chainReply, served}
+use Rattle.frames.specs.Calls.{Told, Handled}
+use Rattle.frames.specs.declared.Replied.{Replied}
+use Rattle.frames.proofs.CallLaws.{read-room, read-all}
+use Rattle.frames.proofs.serve.serve_record.Statement.{statement}
+use Rattle.frames.proofs.serve.serve_record.Tie as tie
+
+-- The record l was read with the scratch s, and x answered.
+module _ (l s : List ℕ) (x : Placed) (room : scratchSize ≤ length s) (e : x ≡ placedOf (lentScratch s (ofRecord l))) where
+  own : x ≡ placedOf (ofRecord l)
+  unfolding lentScratch pick
+  own = rw (le-ltb (length s) scratchSize room) at e
+
+  at-place : (n i : ℕ) → x ≡ placed.At n i → (length l ≤ 64) × (chainReply (ofRecord l) ≡ servedWith (chainDigits n i l))
+  unfolding placedOf chainReply
+  at-place n i f = go (ofRecord l) refl
+    where
+      go : (o : Outcome) → ofRecord l ≡ o → (length l ≤ 64) × (chainReply (ofRecord l) ≡ servedWith (chainDigits n i l))
+      go (refused r) g =
+          let z : _≡_ {A = ℕ} 0 1 = cc (rw g at own) in
+          absurd (omega arith)
+      go (gives m c) g =
+          let (chain, numbers, fits) = record-gives l m c g in
+          let a = rw g at own in
+          let number : m ≡ n = cc a in
+          let short = parts-bound m 64 c chain fits in
+          (omega (arith, ap length numbers, length-map c placeOf), rw (g, numbers) (cc a))
+
+  not-placed : (r : ℕ) → x ≡ placed.Refused r → chainReply (ofRecord l) ≡ refusedAs r
+  unfolding placedOf chainReply
+  not-placed r f = go (ofRecord l) refl
+    where
+      go : (o : Outcome) → ofRecord l ≡ o → chainReply (ofRecord l) ≡ refusedAs r
+      go (refused y) g =
+          let same : y ≡ r = cc (rw g at own) in
+          rw (g, same)
+      go (gives m c) g =
+          let z : _≡_ {A = ℕ} 0 1 = cc (rw g at own) in
+          absurd (omega arith)
+
+  handled : (y : Reply) (r : Replied) (s′ out out′ : List ℕ) → chainReply (ofRecord l) ≡ y → s′ ≡ scratchLeft (ltb (length s) scratchSize) s
+      → Told y r out out′ → Handled (chainReply (ofRecord l)) r s s′ out out′
+  unfolding scratchLeft pickList
+  handled y r s′ out out′ f left told =
+      record { told = rw f told; zeroed = rw (le-ltb (length s) scratchSize room) at left }
+
+part-read-record-end : tie.Need-part-read-record-end
+part-read-record-end c =
+    let l = c .before .before in
+    let s = l .before .before .before .before .before in
+    omega (arith, read-room 2 (s .args .line .now) _ _ _ (l .numbers-of .ensures .0) (l .numbers-of .ensures .1) (omega arith))
+
+part-tell-chain-end : tie.Need-part-tell-chain-end
+part-tell-chain-end c =
+    let l = c .before .before .before .before .before .before .before .before .before .before .before .before in
+    let s = l .before .before .before .before .before in
+    omega (arith, read-room 2 (s .args .line .now) _ _ _ (l .numbers-of .ensures .0) (l .numbers-of .ensures .1) (omega arith))
+
+tell-chain-requires : tie.Need-tell-chain-requires
+tell-chain-requires c κs =
+    let m = c .before .before .before .before in
+    let q = m .before .before .before .before in
+    let s = q .before .before .before .before .before .before .before .before .before .before in
+    (omega arith, at-place _ (s .args .scratch .now) _ (s .pre .0 .numbers) (q .read-record .ensures .0) _ _ (m .n .given .1) .0)
+
+returns : tie.Need-returns
+unfolding served bytesIn
+returns c =
+    let t = c .before .before in
+    let m = t .before .before .before .before .before in
+    let q = m .before .before .before .before in
+    let l = q .before .before .before .before .before in
+    let s = l .before .before .before .before .before in
+    let w = read-all 2 _ _ _ _ (l .numbers-of .ensures .0) (l .numbers-of .ensures .1) recording (s .pre .1) (omega arith) (omega arith) in
+    rw (← w)
+    (handled _ _ _ (s .pre .0 .numbers) (q .read-record .ensures .0) _ _ _ _ _
+    (at-place _ (s .args .scratch .now) _ (s .pre .0 .numbers) (q .read-record .ensures .0) _ _ (m .n .given .1) .1) (q .read-record .ensures .1) (t .tell-chain .ensures))
+
+returns-2 : tie.Need-returns-2
+unfolding served bytesIn
+returns-2 c =
+    let t = c .before .before in
+    let m = t .before .before .before in
+    let q = m .before .before .before .before in
+    let l = q .before .before .before .before .before in
+    let s = l .before .before .before .before .before in
+    let w = read-all 2 _ _ _ _ (l .numbers-of .ensures .0) (l .numbers-of .ensures .1) recording (s .pre .1) (omega arith) (omega arith) in
+    rw (← w)
+    (handled _ _ _ (s .pre .0 .numbers) (q .read-record .ensures .0) _ _ _ _ _
+    (not-placed _ (s .args .scratch .now) _ (s .pre .0 .numbers) (q .read-record .ensures .0) _ (m .number .given .1)) (q .read-record .ensures .1) (t .tell-refusal .ensures))
+
+pub serve-record-spec : {M : Type 1} → statement M
+serve-record-spec =
+    tie.close
+    (tie.spec
+    (λ c. search needs)
+    (λ c κs. search needs)
+    (λ c. search needs)
+    (λ c. search needs)
+    part-read-record-end
+    (λ c κs. search needs)
+    (λ c. search needs)
+    (λ c. search needs)
+    (λ c. search needs)
+    part-tell-chain-end
+    tell-chain-requires
+    (λ c. search needs)
+    (λ c κs. search needs)
+    (λ c. search needs)
+    (λ c. search needs)
+    returns
+    (λ c. search needs)
+    (λ c. search needs)
+    returns-2)

@@ -1,0 +1,100 @@
+-- Digits that were written, read back as the fields of a line: what a person or a program finds in a reply.
+--
+-- In this order: a field after others, and the first one; values one after the other; a count, a chain, and a chain with its price.
+use mathlib.Core.Path.{_≡_, refl, ap, _∙_}
+use mathlib.Core.List.{List, [], _∷_, _++_, append-nil, append-assoc}
+use Prim.Native.Nat.{ℕ, zero, suc, _+_, _*_, _^_, _≤_, _<_}
+use native.Mathlib.Nat.{add-zero, add-assoc, mul-add, mod-eq-of-lt}
+use native.Mathlib.Omega.{arith}
+use lib.ListN.{length, getD}
+use lib.Seq.{take-at, drop-append-add}
+use Rattle.digits.specs.Digits.{digitsOf}
+use Rattle.digits.specs.DigitLaws.{length-digits, number-digits}
+use Rattle.lines.specs.Lines.{field, fields}
+use Rattle.frames.specs.ReplyDigits.{countDigits, valuesDigits, numbersDigits, headDigits, chainDigits, pricedDigits, length-head, length-chain}
+
+-- ---- one field
+
+-- The first a bytes are passed over.
+pub field-after : (a at k : ℕ) (xs l : List ℕ) → length xs ≡ 2 * a → field (xs ++ l) (a + at) k ≡ field l at k
+unfolding field
+field-after a at k xs l e = rw (mul-add 2 a at, ← e, drop-append-add xs l (2 * at))
+
+-- A value of k bytes that fits.
+pub field-first : (k n : ℕ) (l : List ℕ) → n < 16 ^ (2 * k) → field (digitsOf (2 * k) n ++ l) 0 k ≡ n
+unfolding field
+field-first k n l h =
+    rw (take-at (digitsOf (2 * k) n) l (2 * k) (length-digits (2 * k) n)) (number-digits (2 * k) n ∙ mod-eq-of-lt h)
+
+-- ---- values one after the other
+
+-- Every value fits into `width` bytes.
+abbrev pub Fitting : ℕ → List ℕ → Type 0
+Fitting width xs = (i : ℕ) → i < length xs → getD xs i 0 < 16 ^ (2 * width)
+
+pub fields-after : (a at width k : ℕ) (xs l : List ℕ) → length xs ≡ 2 * a → fields (xs ++ l) (a + at) width k ≡ fields l at width k
+unfolding fields
+fields-after a at width zero xs l e = refl
+fields-after a at width (suc k) xs l e =
+    rw (field-after a at width xs l e, add-assoc, fields-after a (at + width) width k xs l e)
+
+pub fields-first : (width : ℕ) (xs l : List ℕ) → Fitting width xs → fields (valuesDigits width xs ++ l) 0 width (length xs) ≡ xs
+unfolding fields valuesDigits
+fields-first width [] l h = refl
+fields-first width (x ∷ xs) l h =
+    let d = digitsOf (2 * width) x in
+    let rest = valuesDigits width xs ++ l in
+    let z : 0 + width ≡ width + 0 = omega arith in
+    rw (append-assoc, field-first width x rest (h 0 (omega arith)), z, fields-after width 0 width (length xs) d rest (length-digits (2 * width) x))
+    (ap (λ (ys : List ℕ). x ∷ ys) (fields-first width xs l (λ i g. h (suc i) (omega arith))))
+
+-- ---- replies
+
+pub count-read : (count : ℕ) → count < 2 ^ 64 → (field (countDigits count) 0 1 ≡ 0) × (field (countDigits count) 1 8 ≡ count)
+unfolding countDigits
+count-read count h = (
+  field-first 1 0 (digitsOf 16 count) (omega arith),
+  rw (← append-nil (digitsOf 16 count))
+      (field-after 1 0 8 (digitsOf 2 0) (digitsOf 16 count ++ []) (length-digits 2 0) ∙ field-first 8 count [] (omega arith)),
+)
+
+-- What a chain's digits are read back as: 00, n, its position, how many parts it has, their numbers.
+pub record ChainRead (n position : ℕ) (numbers ds : List ℕ) : Type 0 where
+  pub zero-first : field ds 0 1 ≡ 0
+  pub number : field ds 1 8 ≡ n
+  pub place : field ds 9 8 ≡ position
+  pub parts : field ds 17 1 ≡ length numbers
+  pub each : fields ds 18 2 (length numbers) ≡ numbers
+
+module _ (n position : ℕ) (numbers rest : List ℕ) (f : n < 2 ^ 64) (g : position < 2 ^ 64) (few : length numbers ≤ 64) (fit : Fitting 2 numbers) where
+  pub chain-read : ChainRead n position numbers (chainDigits n position numbers ++ rest)
+  unfolding chainDigits headDigits
+  chain-read =
+      let a = digitsOf 2 0 in
+      let b = digitsOf 16 n in
+      let c = digitsOf 16 position in
+      let d = digitsOf 2 (length numbers) in
+      let e = numbersDigits numbers in
+      let h : a ++ b ++ c ++ d ++ e ++ rest ≡ a ++ (b ++ (c ++ (d ++ (e ++ rest)))) = simp append-assoc in
+      let after-a : (at k : ℕ) → field (a ++ b ++ c ++ d ++ e ++ rest) (1 + at) k ≡ field (b ++ (c ++ (d ++ (e ++ rest)))) at k =
+      λ at k. rw h (field-after 1 at k a (b ++ (c ++ (d ++ (e ++ rest)))) (length-digits 2 0)) in
+      let after-b : (at k : ℕ) → field (a ++ b ++ c ++ d ++ e ++ rest) (1 + (8 + at)) k ≡ field (c ++ (d ++ (e ++ rest))) at k =
+      λ at k. after-a (8 + at) k ∙ field-after 8 at k b (c ++ (d ++ (e ++ rest))) (length-digits 16 n) in
+      record {
+        zero-first = rw h (field-first 1 0 (b ++ (c ++ (d ++ (e ++ rest)))) (omega arith));
+        number = after-a 0 8 ∙ field-first 8 n (c ++ (d ++ (e ++ rest))) (omega arith);
+        place = after-b 0 8 ∙ field-first 8 position (d ++ (e ++ rest)) (omega arith);
+        parts = after-b 8 1 ∙ field-after 8 0 1 c (d ++ (e ++ rest)) (length-digits 16 position) ∙ field-first 1 (length numbers) (e ++ rest) (omega arith);
+        each = rw (append-assoc (a ++ b ++ c ++ d) e rest)
+            (fields-after 18 0 2 (length numbers) (a ++ b ++ c ++ d) (e ++ rest) (length-head n position (length numbers)) ∙ fields-first 2 numbers rest fit);
+      }
+
+-- The price follows the last part number.
+pub price-read : (n position : ℕ) (numbers : List ℕ) (price : ℕ) → price < 2 ^ 32
+    → field (pricedDigits n position numbers price) (18 + 2 * length numbers) 4 ≡ price
+unfolding pricedDigits
+price-read n position numbers price h =
+    let at = 18 + 2 * length numbers in
+    let ds = chainDigits n position numbers in
+    let long : length ds ≡ 2 * at = omega (arith, length-chain n position numbers) in
+    rw (← append-nil (digitsOf 8 price), ← add-zero at) (field-after at 0 4 ds (digitsOf 8 price ++ []) long ∙ field-first 4 price [] (omega arith))

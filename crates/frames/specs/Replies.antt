@@ -1,0 +1,95 @@
+-- The reply to a line, from the line's characters alone: document 01, 'Frames' and 'What a refused line or call gets'. It is a function
+-- of the line: neither the lines before it nor what the lent memory held has a part in it.
+--
+-- In this order: replies and their digits; the reply to a line; what a call answers and leaves behind.
+-- Definitions only. The theory is in ReplyLaws, and that the services' outcomes are 003's chains in the crates of the services.
+use mathlib.Core.Bool.{Bool, true, false, _||_}
+use mathlib.Core.List.{List, map}
+use Prim.Native.Nat.{ℕ}
+use lib.Dec.{ltb}
+use lib.ListN.{length}
+use Rattle.chains.specs.Listing.{count, position}
+use Rattle.chains.specs.Best.{Prices, Limits, price}
+use Rattle.parts.specs.Parts.{placeOf}
+use Rattle.grid.specs.Grid.{scratchSize}
+use Rattle.lent.specs.Lent.{filled}
+use Rattle.ranking.specs.Services.{Outcome, refused, gives, pickList, atPosition, ofWord, nextOf, ofRecord}
+use Rattle.best.specs.Chosen.{limitsOf, pricesOf, bestOutcome}
+use Rattle.digits.specs.Digits.{digitsOf}
+use Rattle.lines.specs.Kinds.{Kind, counting, choosing, placing, recording, wording, following}
+use Rattle.lines.specs.Lines.{field, Shape, unfit, fit, shapeOf, lettersIn, numbersIn}
+use Rattle.frames.specs.ReplyDigits.{countDigits, chainDigits, pricedDigits}
+use Rattle.frames.specs.declared.Replied.{Replied}
+use Rattle.frames.specs.declared.Replied.the-variants as replied
+
+-- ---- replies and their digits
+
+-- A line is refused by a number, or served with the digits of its reply.
+pub data Reply : Type 0 where
+  refusedAs : ℕ → Reply
+  servedWith : List ℕ → Reply
+
+-- The digits of a reply: a refused line gives its number as one byte.
+unfoldable pub digitsIn : Reply → List ℕ
+digitsIn (refusedAs r) = digitsOf 2 r
+digitsIn (servedWith ds) = ds
+
+-- A service's refusal, or its chain with the part numbers, largest first.
+unfoldable pub chainReply : Outcome → Reply
+chainReply (refused r) = refusedAs r
+chainReply (gives n c) = servedWith (chainDigits n (position n c) (map placeOf c))
+
+-- The same with the chain's price.
+unfoldable pub pricedReply : Prices → Outcome → Reply
+pricedReply π (refused r) = refusedAs r
+pricedReply π (gives n c) = servedWith (pricedDigits n (position n c) (map placeOf c) (price π c))
+
+-- ---- the reply to a line
+
+-- What a line of kind 02 asks for after n: K, A, B, then d, t, s.
+unfoldable pub limitsIn : List ℕ → Limits
+limitsIn line = limitsOf (field line 9 1) (field line 10 1) (field line 11 1)
+
+unfoldable pub pricesIn : List ℕ → Prices
+pricesIn line = pricesOf (field line 12 2) (field line 14 2) (field line 16 2)
+
+-- The reply to a fit line of a kind, by the services' own definitions.
+unfoldable pub served : Kind → List ℕ → Reply
+served counting line = servedWith (countDigits (count (field line 1 8)))
+served choosing line = pricedReply (pricesIn line) (bestOutcome (field line 1 8) (limitsIn line) (pricesIn line))
+served placing line = chainReply (atPosition (field line 1 8) (field line 9 8))
+served recording line = chainReply (ofRecord (numbersIn line))
+served wording line = chainReply (ofWord (lettersIn line))
+served following line = chainReply (nextOf (ofWord (lettersIn line)))
+
+unfoldable pub replyByShape : Shape → List ℕ → Reply
+replyByShape (unfit r) line = refusedAs r
+replyByShape (fit k) line = served k line
+
+-- The reply to a line.
+unfoldable pub replyTo : List ℕ → Reply
+replyTo line = replyByShape (shapeOf line) line
+
+-- Its digits.
+unfoldable pub replyOf : List ℕ → List ℕ
+replyOf line = digitsIn (replyTo line)
+
+-- ---- what a call answers and leaves behind
+
+-- Too little is lent: a scratch under 5,248, or fewer than 514 bytes for the reply.
+unfoldable pub littleLent : List ℕ → List ℕ → Bool
+littleLent scratch out = ltb (length scratch) scratchSize || ltb (length out) 514
+
+-- The answer for a reply: how many digits it has, or the number of the refusal.
+unfoldable pub repliedOf : Reply → Replied
+repliedOf (refusedAs r) = replied.Refused r
+repliedOf (servedWith ds) = replied.Digits (length ds)
+
+-- Refusal 1 comes first.
+unfoldable pub answerTo : Bool → List ℕ → Replied
+answerTo true line = repliedOf (refusedAs 1)
+answerTo false line = repliedOf (replyTo line)
+
+-- The bytes for the reply at exit: untouched with refusal 1, else the reply's digits, then zeros up to 514, later bytes untouched.
+unfoldable pub outLeft : Bool → List ℕ → List ℕ → List ℕ
+outLeft little line entry = pickList little entry (filled 514 (replyOf line) entry)

@@ -1,0 +1,220 @@
+-- Theory of the reply to a line.
+--
+-- In this order: a line's first 515 characters; replies by their kind; the chains of replies are chains of n; every reply is an even number of digits, at
+-- least 2 and at most 300, all of them hexadecimal; what a chain's reply is read back as.
+-- That replies lead to each other, as demand 2 asks, is in LineTrips.
+use mathlib.Core.Path.{_≡_, refl}
+use mathlib.Core.Bool.{true}
+use mathlib.Core.List.{List, _++_, map}
+use mathlib.Core.Option.{Option, none, some}
+use Prim.Native.Nat.{ℕ, zero, suc, _+_, _%_, _^_, _≤_, _<_}
+use native.Mathlib.Omega.{arith}
+use lib.ListN.{length, take, length-map}
+use Rattle.chains.specs.Chains.{Part, ChainOf}
+use Rattle.chains.specs.Listing.{count, position}
+use Rattle.chains.specs.Best.{Prices, Limits, price}
+use Rattle.chains.specs.BestOfAll.{bestOf}
+use Rattle.chains.specs.Bounds.{parts-bound}
+use Rattle.chains.specs.Counts.{count-0, count-at-most}
+use Rattle.chains.specs.PositionsOfChains.{at-position}
+use Rattle.parts.specs.Parts.{placeOf}
+use Rattle.words.specs.RecordLaws.{InTable, judged-sum}
+use Rattle.words.specs.WordLaws.{chain-judged}
+use Rattle.ranking.specs.Services.{Outcome, refused, gives, atPosition, ofWord, nextOf, ofRecord}
+use Rattle.ranking.specs.Outcomes.{at-gives, of-gives, next-gives, record-gives}
+use Rattle.best.specs.Chosen.{orNone, bestOutcome}
+use Rattle.best.specs.KeyTable.{Cheap}
+use Rattle.best.specs.Demand3.{given-is-best}
+use Rattle.digits.specs.Digits.{isWritten, every, digitsOf}
+use Rattle.digits.specs.DigitLaws.{every-append, length-digits, written-digits}
+use Rattle.lines.specs.Kinds.{Kind, counting, choosing, placing, recording, wording, following, kindOf}
+use Rattle.lines.specs.Lines.{field, Shape, unfit, fit, shapeOf, lettersIn, numbersIn}
+use Rattle.lines.specs.LineLaws.{field-below, fit-line, reply-515}
+use Rattle.frames.specs.ReplyDigits.{countDigits, headDigits, chainDigits, pricedDigits, length-count, length-chain, length-priced, every-values}
+use Rattle.frames.specs.ReadBack.{Fitting, ChainRead, chain-read}
+use Rattle.frames.specs.Replies.{servedWith, digitsIn, chainReply, pricedReply, limitsIn, pricesIn, served, replyByShape, replyTo, replyOf}
+
+-- ---- a line's first 515 characters
+
+-- Of a longer line they are all that the reply depends on.
+pub first-515 : (line : List ℕ) → replyOf line ≡ replyOf (take 515 line)
+unfolding replyOf replyTo replyByShape
+first-515 line = reply-515 (λ s l. digitsIn (replyByShape s l)) (λ r a b. refl) line
+
+-- ---- replies by their kind
+
+pub reply-fit : (line : List ℕ) (k : Kind) → shapeOf line ≡ fit k → replyTo line ≡ served k line
+unfolding replyTo replyByShape
+reply-fit line k e = rw e
+
+-- A line that is served is fit, and of the kind that its first byte stands for.
+pub served-kind : (line ds : List ℕ) (k : Kind) → kindOf (field line 0 1) ≡ some k → replyTo line ≡ servedWith ds → served k line ≡ servedWith ds
+unfolding replyTo replyByShape
+served-kind line ds k first e = go (shapeOf line) refl
+  where
+    go : (s : Shape) → shapeOf line ≡ s → served k line ≡ servedWith ds
+    go (unfit r) g =
+        let z : _≡_ {A = ℕ} 0 1 = cc (rw g at e) in
+        absurd (omega arith)
+    go (fit j) g =
+        let same : j ≡ k = cc (fit-line line j g .kind) in
+        rw same at (rw g at e)
+
+-- ---- the chains of replies
+
+-- What an outcome gives is a chain of a number below 2^64.
+pub record Sound (o : Outcome) : Type 0 where
+  pub chain : (n : ℕ) (c : List Part) → o ≡ gives n c → ChainOf n c
+  pub fits : (n : ℕ) (c : List Part) → o ≡ gives n c → n < 2 ^ 64
+
+pub at-sound : (n i : ℕ) → n < 2 ^ 64 → Sound (atPosition n i)
+at-sound n i f =
+    record {
+      chain = λ m c e. let (same, chain, place) = at-gives n i m c e in rw same chain;
+      fits = λ m c e. let (same, chain, place) = at-gives n i m c e in omega arith;
+    }
+
+pub word-sound : (w : List ℕ) → Sound (ofWord w)
+word-sound w = record { chain = λ n c e. of-gives w n c e .0; fits = λ n c e. of-gives w n c e .2 }
+
+pub next-sound : (w : List ℕ) → Sound (nextOf (ofWord w))
+next-sound w =
+    record {
+      chain = λ n c e. next-gives w n c e .2;
+      fits = λ n c e. let d = next-gives w n c e in of-gives w n (d .0) (d .1) .2;
+    }
+
+pub record-sound : (l : List ℕ) → Sound (ofRecord l)
+record-sound l = record { chain = λ n c e. record-gives l n c e .0; fits = λ n c e. record-gives l n c e .2 }
+
+-- The best chain of n is a chain of n, and 5 the only refusal.
+module _ (n : ℕ) (lim : Limits) (π : Prices) where
+  by-best : (P : Outcome → Type 0) → P (refused 5) → ((c : List Part) → P (gives n c)) → P (bestOutcome n lim π)
+  unfolding bestOutcome orNone
+  by-best P none-given given = go (bestOf (2 ^ 32) n lim π)
+    where
+      go : (b : Option (List Part)) → P (orNone n b)
+      go none = none-given
+      go (some c) = given c
+
+  pub best-number : (m : ℕ) (c : List Part) → bestOutcome n lim π ≡ gives m c → m ≡ n
+  best-number m c = by-best (λ (o : Outcome). o ≡ gives m c → m ≡ n) (λ e. let z : _≡_ {A = ℕ} 0 1 = cc in absurd (omega arith)) (λ d e. cc)
+
+  pub best-five : (r : ℕ) → bestOutcome n lim π ≡ refused r → r ≡ 5
+  best-five r = by-best (λ (o : Outcome). o ≡ refused r → r ≡ 5) (λ e. cc) (λ d e. let z : _≡_ {A = ℕ} 0 1 = cc in absurd (omega arith))
+
+pub best-sound : (n : ℕ) (lim : Limits) (π : Prices) → n < 2 ^ 64 → Cheap π → Sound (bestOutcome n lim π)
+best-sound n lim π f cheap =
+    record {
+      chain = λ m c e. let same = best-number n lim π m c e in rw same (given-is-best lim f cheap c .0 (rw same at e) .chain);
+      fits = λ m c e. omega (arith, best-number n lim π m c e);
+    }
+
+-- The numbers and prices that stand in a line.
+pub number-low : (line : List ℕ) (at : ℕ) → field line at 8 < 2 ^ 64
+number-low line at = omega (arith, field-below line at 8)
+
+pub prices-cheap : (line : List ℕ) → Cheap (pricesIn line)
+unfolding pricesIn
+prices-cheap line =
+    record {
+      d = omega (arith, field-below line 12 2);
+      t = omega (arith, field-below line 14 2);
+      s = omega (arith, field-below line 16 2);
+    }
+
+-- ---- every reply is a frame
+
+-- Whole bytes, at least one and at most 150, in digits as they are written.
+pub record Frame (ds : List ℕ) : Type 0 where
+  pub even : length ds % 2 ≡ 0
+  pub least : 2 ≤ length ds
+  pub most : length ds ≤ 300
+  pub digits : every isWritten ds ≡ true
+
+written-chain : (n position : ℕ) (numbers : List ℕ) → every isWritten (chainDigits n position numbers) ≡ true
+unfolding chainDigits headDigits
+written-chain n position numbers = simp (every-append, written-digits, every-values isWritten written-digits)
+
+count-frame : (count : ℕ) → Frame (countDigits count)
+unfolding countDigits
+count-frame count =
+    let n = length-count count in
+    record { even = omega arith; least = omega arith; most = omega arith; digits = simp (every-append, written-digits) }
+
+refusal-frame : (r : ℕ) → Frame (digitsOf 2 r)
+refusal-frame r =
+    let n = length-digits 2 r in
+    record { even = omega arith; least = omega arith; most = omega arith; digits = written-digits 2 r }
+
+module _ (n position price : ℕ) (numbers : List ℕ) (few : length numbers ≤ 64) where
+  chain-frame : Frame (chainDigits n position numbers)
+  chain-frame =
+      let k = length-chain n position numbers in
+      record { even = omega arith; least = omega arith; most = omega arith; digits = written-chain n position numbers }
+
+  priced-frame : Frame (pricedDigits n position numbers price)
+  unfolding pricedDigits
+  priced-frame =
+      let k = length-priced n position numbers price in
+      record { even = omega arith; least = omega arith; most = omega arith; digits = simp (every-append, written-digits, written-chain) }
+
+module _ (o : Outcome) (s : Sound o) where
+  few : (n : ℕ) (c : List Part) → o ≡ gives n c → length (map placeOf c) ≤ 64
+  few n c e = omega (arith, length-map c placeOf, parts-bound n 64 c (s .chain n c e) (s .fits n c e))
+
+  outcome-frame : Frame (digitsIn (chainReply o))
+  unfolding chainReply digitsIn
+  outcome-frame = go o refl
+    where
+      go : (x : Outcome) → o ≡ x → Frame (digitsIn (chainReply x))
+      go (refused r) e = refusal-frame r
+      go (gives n c) e = chain-frame n (position n c) 0 (map placeOf c) (few n c e)
+
+  outcome-priced : (π : Prices) → Frame (digitsIn (pricedReply π o))
+  unfolding pricedReply digitsIn
+  outcome-priced π = go o refl
+    where
+      go : (x : Outcome) → o ≡ x → Frame (digitsIn (pricedReply π x))
+      go (refused r) e = refusal-frame r
+      go (gives n c) e = priced-frame n (position n c) (price π c) (map placeOf c) (few n c e)
+
+served-frame : (k : Kind) (line : List ℕ) → Frame (digitsIn (served k line))
+unfolding served digitsIn
+served-frame counting line = count-frame (count (field line 1 8))
+served-frame choosing line =
+    let n = field line 1 8 in
+    outcome-priced (bestOutcome n (limitsIn line) (pricesIn line)) (best-sound n (limitsIn line) (pricesIn line) (number-low line 1) (prices-cheap line)) (pricesIn line)
+served-frame placing line = outcome-frame (atPosition (field line 1 8) (field line 9 8)) (at-sound (field line 1 8) (field line 9 8) (number-low line 1))
+served-frame recording line = outcome-frame (ofRecord (numbersIn line)) (record-sound (numbersIn line))
+served-frame wording line = outcome-frame (ofWord (lettersIn line)) (word-sound (lettersIn line))
+served-frame following line = outcome-frame (nextOf (ofWord (lettersIn line))) (next-sound (lettersIn line))
+
+pub reply-frame : (line : List ℕ) → Frame (replyOf line)
+unfolding replyOf replyTo replyByShape digitsIn
+reply-frame line = go (shapeOf line)
+  where
+    go : (s : Shape) → Frame (digitsIn (replyByShape s line))
+    go (unfit r) = refusal-frame r
+    go (fit k) = served-frame k line
+
+-- ---- what a chain's reply is read back as
+
+-- The part numbers of a chain of a number below 2^64.
+pub numbers-fit : (n : ℕ) (c : List Part) → ChainOf n c → n < 2 ^ 64 → Fitting 2 (map placeOf c)
+unfolding InTable
+numbers-fit n c h f = λ i l. omega (arith, judged-sum (map placeOf c) n .0 (chain-judged n c h f) .known i l)
+
+count-low : (n : ℕ) → n < 2 ^ 64 → count n < 2 ^ 64
+count-low zero f = omega (arith, count-0)
+count-low (suc n) f = omega (arith, count-at-most (suc n) (omega arith))
+
+pub position-low : (n : ℕ) (c : List Part) → ChainOf n c → n < 2 ^ 64 → position n c + 1 < 2 ^ 64
+position-low n c h f = omega (arith, at-position n c h .0, count-low n f)
+
+-- Whatever follows, as the price does.
+pub reply-read : (n : ℕ) (c : List Part) (rest : List ℕ) → ChainOf n c → n < 2 ^ 64
+    → ChainRead n (position n c) (map placeOf c) (chainDigits n (position n c) (map placeOf c) ++ rest)
+reply-read n c rest h f =
+    chain-read n (position n c) (map placeOf c) rest f (omega (arith, position-low n c h f))
+    (omega (arith, length-map c placeOf, parts-bound n 64 c h f)) (numbers-fit n c h f)

@@ -1,0 +1,136 @@
+// Fit lines, kind by kind: what the line asks for is read, the service called, and its answer told.
+use super::Replied;
+use super::tell;
+use best::Chosen;
+use counting::Counted;
+use ranking::Placed;
+ghost use mathlib.Core.Path.{_≡_};
+ghost use Rattle.ranking.specs.Services.{lent, tooLittle, placesLeft, scratchLeft};
+ghost use Rattle.best.specs.Chosen.{bestOutcome, chosenOf};
+ghost use Rattle.frames.specs.Calls.{Lent, Handled, FitAs};
+ghost use Rattle.frames.specs.Replies.{refusedAs, limitsIn, pricesIn, served, replyTo};
+ghost use Rattle.lines.specs.Kinds.{counting, choosing, placing, recording, wording, following};
+ghost use Rattle.lines.specs.LineLaws.{Fit};
+
+// A line that is refused: the scratch is zeroed as on success.
+pub fn serve_refusal(number: u8, scratch: &mut [u64], out: &mut [u8]) -> Replied
+    requires { ⌜ Lent (now scratch) (now out) ⌝ }
+    ensures { λ r. ⌜ Handled (refusedAs number) r (now (scratch .entry)) (now (scratch .exit)) (now (out .entry)) (now (out .exit)) ⌝ }
+{
+    lent::clear_u64(&mut scratch[0..5248]);
+    tell::tell_refusal(out, number)
+}
+
+// 01: the count.
+pub fn serve_count(line: &[u8], scratch: &mut [u64], out: &mut [u8]) -> Replied
+    requires { ⌜ Lent (now scratch) (now out) ⌝ }
+    ensures { λ r. ⌜ Handled (served counting (now (line .entry))) r (now (scratch .entry)) (now (scratch .exit)) (now (out .entry)) (now (out .exit)) ⌝ }
+{
+    match counting::table_count(lines::field_of(line, 1, 8), scratch) {
+        Counted::Count(count) => tell::tell_count(out, count),
+        Counted::Refused(number) => tell::tell_refusal(out, number),
+    }
+}
+
+// The best chain of n within the limits and by the prices of a line of kind 02.
+fn best_in(n: u64, line: &[u8], scratch: &mut [u64], places: &mut [u16]) -> Chosen
+    ensures { λ r. ⌜ r
+        ≡ chosenOf (pricesIn (now (line .entry)))
+        (lent (now (scratch .entry)) (now (places .entry)) (bestOutcome n (limitsIn (now (line .entry))) (pricesIn (now (line .entry))))) ⌝ }
+    ensures { λ _. ⌜ now (places .exit)
+        ≡ placesLeft
+        (lent (now (scratch .entry)) (now (places .entry)) (bestOutcome n (limitsIn (now (line .entry))) (pricesIn (now (line .entry)))))
+        (now (places .entry)) ⌝ }
+    ensures { λ _. ⌜ now (scratch .exit) ≡ scratchLeft (tooLittle (now (scratch .entry)) (now (places .entry))) (now (scratch .entry)) ⌝ }
+{
+    let parts_limit = lines::byte_of(line, 9);
+    let a_limit = lines::byte_of(line, 10);
+    let b_limit = lines::byte_of(line, 11);
+    let d = lines::pair_of(line, 12);
+    let t = lines::pair_of(line, 14);
+    let s = lines::pair_of(line, 16);
+    best::best_chain(n, parts_limit, a_limit, b_limit, d, t, s, scratch, places)
+}
+
+// 02: the best chain.
+pub fn serve_best(line: &[u8], scratch: &mut [u64], out: &mut [u8]) -> Replied
+    requires { ⌜ Lent (now scratch) (now out) ⌝ }
+    ensures { λ r. ⌜ Handled (served choosing (now (line .entry))) r (now (scratch .entry)) (now (scratch .exit)) (now (out .entry)) (now (out .exit)) ⌝ }
+{
+    let n = lines::field_of(line, 1, 8);
+    let mut places = [0u16; 64];
+    match best_in(n, line, scratch, &mut places) {
+        Chosen::Chain { position, k, price } => {
+            let end = k as usize;
+            tell::tell_priced(out, n, position, &places[0..end], price)
+        }
+        Chosen::Refused(number) => tell::tell_refusal(out, number),
+    }
+}
+
+// 03: the chain at a position.
+pub fn serve_at(line: &[u8], scratch: &mut [u64], out: &mut [u8]) -> Replied
+    requires { ⌜ Lent (now scratch) (now out) ⌝ }
+    ensures { λ r. ⌜ Handled (served placing (now (line .entry))) r (now (scratch .entry)) (now (scratch .exit)) (now (out .entry)) (now (out .exit)) ⌝ }
+{
+    let mut places = [0u16; 64];
+    let found = ranking::chain_at(
+        lines::field_of(line, 1, 8),
+        lines::field_of(line, 9, 8),
+        scratch,
+        &mut places,
+    );
+    tell::tell_found(out, found, &places)
+}
+
+// 04: a burned record. The reply repeats its part numbers.
+pub fn serve_record(line: &[u8], scratch: &mut [u64], out: &mut [u8]) -> Replied
+    requires { ⌜ Lent (now scratch) (now out) × Fit (now line) recording ⌝ }
+    ensures { λ r. ⌜ Handled (served recording (now (line .entry))) r (now (scratch .entry)) (now (scratch .exit)) (now (out .entry)) (now (out .exit)) ⌝ }
+{
+    let mut numbers = [0u16; 255];
+    let k = lines::numbers_of(line, &mut numbers);
+    match ranking::read_record(&numbers[0..k], scratch) {
+        Placed::At { n, position } => tell::tell_chain(out, n, position, &numbers[0..k]),
+        Placed::Refused(number) => tell::tell_refusal(out, number),
+    }
+}
+
+// 05: a word.
+pub fn serve_word(line: &[u8], scratch: &mut [u64], out: &mut [u8]) -> Replied
+    requires { ⌜ Lent (now scratch) (now out) × Fit (now line) wording ⌝ }
+    ensures { λ r. ⌜ Handled (served wording (now (line .entry))) r (now (scratch .entry)) (now (scratch .exit)) (now (out .entry)) (now (out .exit)) ⌝ }
+{
+    let mut letters = [0u8; 255];
+    let k = lines::letters_of(line, &mut letters);
+    let mut places = [0u16; 64];
+    let found = ranking::read_word(&letters[0..k], scratch, &mut places);
+    tell::tell_found(out, found, &places)
+}
+
+// 06: the chain after a word's.
+pub fn serve_next(line: &[u8], scratch: &mut [u64], out: &mut [u8]) -> Replied
+    requires { ⌜ Lent (now scratch) (now out) × Fit (now line) following ⌝ }
+    ensures { λ r. ⌜ Handled (served following (now (line .entry))) r (now (scratch .entry)) (now (scratch .exit)) (now (out .entry)) (now (out .exit)) ⌝ }
+{
+    let mut letters = [0u8; 255];
+    let k = lines::letters_of(line, &mut letters);
+    let mut places = [0u16; 64];
+    let found = ranking::next_chain(&letters[0..k], scratch, &mut places);
+    tell::tell_found(out, found, &places)
+}
+
+// A fit line, by the byte of its kind.
+pub fn serve_kind(kind: u8, line: &[u8], scratch: &mut [u64], out: &mut [u8]) -> Replied
+    requires { ⌜ Lent (now scratch) (now out) × FitAs kind (now line) ⌝ }
+    ensures { λ r. ⌜ Handled (replyTo (now (line .entry))) r (now (scratch .entry)) (now (scratch .exit)) (now (out .entry)) (now (out .exit)) ⌝ }
+{
+    match kind {
+        1 => serve_count(line, scratch, out),
+        2 => serve_best(line, scratch, out),
+        3 => serve_at(line, scratch, out),
+        4 => serve_record(line, scratch, out),
+        5 => serve_word(line, scratch, out),
+        _ => serve_next(line, scratch, out),
+    }
+}

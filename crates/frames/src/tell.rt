@@ -1,0 +1,64 @@
+// Replies whole: their digits in the bytes that are lent, then zeros up to 514.
+use super::Replied;
+use super::put;
+use ranking::Found;
+ghost use Prim.Native.Nat.{_≤_};
+ghost use lib.ListN.{length};
+ghost use Rattle.frames.specs.Replies.{refusedAs, servedWith};
+ghost use Rattle.frames.specs.ReplyDigits.{countDigits, chainDigits, pricedDigits};
+ghost use Rattle.frames.specs.Calls.{Told, partsIn, foundReply};
+
+// A refused line.
+pub fn tell_refusal(out: &mut [u8], number: u8) -> Replied
+    requires { ⌜ 514 ≤ length (now out) ⌝ }
+    ensures { λ r. ⌜ Told (refusedAs number) r (now (out .entry)) (now (out .exit)) ⌝ }
+{
+    let k = put::put_refusal(out, number);
+    put::fill(out, k);
+    Replied::Refused(number)
+}
+
+// A count.
+pub fn tell_count(out: &mut [u8], count: u64) -> Replied
+    requires { ⌜ 514 ≤ length (now out) ⌝ }
+    ensures { λ r. ⌜ Told (servedWith (countDigits count)) r (now (out .entry)) (now (out .exit)) ⌝ }
+{
+    let k = put::put_count(out, count);
+    put::fill(out, k);
+    Replied::Digits(k as u64)
+}
+
+// A chain of n, by its position and its part numbers.
+pub fn tell_chain(out: &mut [u8], n: u64, position: u64, numbers: &[u16]) -> Replied
+    requires { ⌜ (514 ≤ length (now out)) × (length (now numbers) ≤ 64) ⌝ }
+    ensures { λ r. ⌜ Told (servedWith (chainDigits n position (now (numbers .entry)))) r (now (out .entry)) (now (out .exit)) ⌝ }
+{
+    let k = put::put_chain(out, n, position, numbers);
+    put::fill(out, k);
+    Replied::Digits(k as u64)
+}
+
+// The same with the chain's price.
+pub fn tell_priced(out: &mut [u8], n: u64, position: u64, numbers: &[u16], price: u64) -> Replied
+    requires { ⌜ (514 ≤ length (now out)) × (length (now numbers) ≤ 64) ⌝ }
+    ensures { λ r. ⌜ Told (servedWith (pricedDigits n position (now (numbers .entry)) price)) r (now (out .entry)) (now (out .exit)) ⌝ }
+{
+    let k = put::put_chain(out, n, position, numbers);
+    let end = put::put_price(out, k, price);
+    put::fill(out, end);
+    Replied::Digits(end as u64)
+}
+
+// What a service found, its part numbers in the places.
+pub fn tell_found(out: &mut [u8], found: Found, places: &[u16]) -> Replied
+    requires { ⌜ (514 ≤ length (now out)) × (partsIn found ≤ 64) × (64 ≤ length (now places)) ⌝ }
+    ensures { λ r. ⌜ Told (foundReply found (now (places .entry))) r (now (out .entry)) (now (out .exit)) ⌝ }
+{
+    match found {
+        Found::Chain { n, position, k } => {
+            let end = k as usize;
+            tell_chain(out, n, position, &places[0..end])
+        }
+        Found::Refused(number) => tell_refusal(out, number),
+    }
+}

@@ -1,0 +1,48 @@
+-- `tell_edges` is safe and ends: what is left of the turns falls.
+use mathlib.Core.Path.{_≡_}
+use Prim.Native.Nat.{_-_, _≤_}
+use lib.ListN.{length}
+use borrow.Author.Needs.{needs}
+use Rattle.test_best.proofs.tell_edges.Statement.{statement}
+use Rattle.test_best.proofs.tell_edges.Tie as tie
+
+abbrev Inv-loop : tie.InvT-loop
+Inv-loop scratch₀ places₀ i₀ scratch places i = (i ≤ 88) × (length scratch ≡ length scratch₀) × (length places ≡ length places₀)
+
+abbrev μ-loop : tie.MeasureT-loop
+μ-loop scratch₀ places₀ i₀ scratch places i = 88 - i
+
+abbrev Inv-loop2 : tie.InvT-loop2
+Inv-loop2 scratch₀ places₀ j₀ scratch places j = (j ≤ 4) × (length scratch ≡ length scratch₀) × (length places ≡ length places₀)
+
+abbrev μ-loop2 : tie.MeasureT-loop2
+μ-loop2 scratch₀ places₀ j₀ scratch places j = 4 - j
+
+pub tell-edges-spec : {M : Type 1} → statement M
+tell-edges-spec =
+    tie.close
+    (tie.spec
+    Inv-loop
+    μ-loop
+    Inv-loop2
+    μ-loop2
+    (λ c. search needs)
+    (λ c κs. search needs)
+    (λ c. search needs)
+    (λ c κs. search needs)
+    (λ c κs. search needs)
+    (λ c. search needs)
+    (λ c. search needs)
+    (λ c. search needs)
+    (λ c. search needs)
+    (λ c. search needs)
+    (λ c κs. search needs)
+    (λ c. search needs)
+    (λ c κs. search needs)
+    (λ c κs. search needs)
+    (λ c. search needs)
+    (λ c. search needs)
+    (λ c. search needs)
+    (λ c. search needs)
+    (λ c. search needs)
+    (λ c. search needs))

@@ -1,0 +1,472 @@
+// The best chain of 0 to 400 under twelve limits and prices each; of a thousand 64-bit numbers, with no limit and with limits one below, at
+// and one above what the best chain needs; of numbers at the edges, with what is left in the lent memory; and with too little lent.
+//
+// A line: the position, the number of parts, the price and the part numbers, or the number of the refusal.
+use best::Chosen;
+use libc::STDOUT_FILENO;
+
+// What is asked with: limits on parts, doublings and triplings; prices of a doubling, a tripling and an addition.
+struct Limits {
+    parts: u8,
+    a: u8,
+    b: u8,
+}
+
+struct Prices {
+    d: u16,
+    t: u16,
+    s: u16,
+}
+
+// Those of the small numbers, then those of the numbers at the edges, then those of the examples.
+fn limits_at(i: u64) -> Limits {
+    match i {
+        0 => Limits {
+            parts: 255,
+            a: 255,
+            b: 255,
+        },
+        1 => Limits {
+            parts: 64,
+            a: 63,
+            b: 40,
+        },
+        2 => Limits {
+            parts: 3,
+            a: 63,
+            b: 40,
+        },
+        3 => Limits {
+            parts: 2,
+            a: 5,
+            b: 2,
+        },
+        4 => Limits {
+            parts: 4,
+            a: 3,
+            b: 40,
+        },
+        5 => Limits {
+            parts: 3,
+            a: 63,
+            b: 1,
+        },
+        6 => Limits {
+            parts: 1,
+            a: 255,
+            b: 255,
+        },
+        7 => Limits {
+            parts: 0,
+            a: 0,
+            b: 0,
+        },
+        8 => Limits {
+            parts: 5,
+            a: 0,
+            b: 40,
+        },
+        9 => Limits {
+            parts: 6,
+            a: 63,
+            b: 0,
+        },
+        10 => Limits {
+            parts: 255,
+            a: 255,
+            b: 255,
+        },
+        11 => Limits {
+            parts: 63,
+            a: 63,
+            b: 40,
+        },
+        12 => Limits {
+            parts: 62,
+            a: 63,
+            b: 40,
+        },
+        13 => Limits {
+            parts: 64,
+            a: 63,
+            b: 0,
+        },
+        14 => Limits {
+            parts: 63,
+            a: 63,
+            b: 0,
+        },
+        15 => Limits {
+            parts: 64,
+            a: 0,
+            b: 40,
+        },
+        16 => Limits {
+            parts: 255,
+            a: 62,
+            b: 40,
+        },
+        17 => Limits {
+            parts: 255,
+            a: 63,
+            b: 39,
+        },
+        18 => Limits {
+            parts: 2,
+            a: 63,
+            b: 40,
+        },
+        19 => Limits {
+            parts: 1,
+            a: 63,
+            b: 40,
+        },
+        20 => Limits {
+            parts: 255,
+            a: 255,
+            b: 255,
+        },
+        _ => Limits {
+            parts: 0,
+            a: 0,
+            b: 0,
+        },
+    }
+}
+
+fn prices_of(i: u64) -> Prices {
+    match i {
+        0 => Prices { d: 4, t: 7, s: 9 },
+        1 => Prices { d: 0, t: 0, s: 0 },
+        2 => Prices {
+            d: 65535,
+            t: 65535,
+            s: 65535,
+        },
+        3 => Prices {
+            d: 1,
+            t: 65535,
+            s: 0,
+        },
+        4 => Prices {
+            d: 65535,
+            t: 1,
+            s: 3,
+        },
+        _ => Prices {
+            d: 0,
+            t: 1,
+            s: 65535,
+        },
+    }
+}
+
+// 3 × 2^62 and its neighbour below, the last numbers, powers with their neighbours, a number of many chains; then document 01's two lines of
+// kind 02, its number 29, and 0.
+fn number_at(i: u64) -> u64 {
+    match i {
+        0 => 13835058055282163711,
+        1 => 13835058055282163712,
+        2 => 18446744073709551615,
+        3 => 18446744073709551614,
+        4 => 9223372036854775808,
+        5 => 4611686018427387903,
+        6 => 12157665459056928801,
+        7 => 12157665459056928800,
+        8 => 12157665459056928802,
+        9 => 9223372036854775807,
+        10 => 15973999968531146337,
+        11 => 19,
+        12 => 5,
+        13 => 29,
+        _ => 0,
+    }
+}
+
+fn print(n: u64) {
+    io::print_decimal(STDOUT_FILENO, n);
+}
+
+fn space() {
+    io::write_all(STDOUT_FILENO, b" ");
+}
+
+fn end_line() {
+    io::write_all(STDOUT_FILENO, b"\n");
+}
+
+fn print_three(position: u64, k: u64, price: u64) {
+    print(position);
+    space();
+    print(k);
+    space();
+    print(price);
+}
+
+fn ask(n: u64, l: Limits, p: Prices, scratch: &mut [u64], places: &mut [u16]) -> Chosen {
+    best::best_chain(n, l.parts, l.a, l.b, p.d, p.t, p.s, scratch, places)
+}
+
+fn wide(x: u16) -> u64 {
+    x as u64
+}
+
+// The first k places.
+fn print_places(k: u64, places: &[u16]) {
+    let mut i = 0;
+    while i < places.len() {
+        if i as u64 == k {
+            return;
+        }
+        space();
+        print(wide(places[i]));
+        i += 1;
+    }
+}
+
+fn print_chosen(chosen: Chosen, places: &[u16]) {
+    match chosen {
+        Chosen::Chain { position, k, price } => {
+            print_three(position, k, price);
+            print_places(k, places);
+        }
+        Chosen::Refused(r) => print(r as u64),
+    }
+}
+
+// ---- small numbers
+
+fn tell_dozen(n: u64, scratch: &mut [u64], places: &mut [u16]) {
+    for i in 0..12 {
+        let chosen = ask(
+            n,
+            limits_at(i % 10),
+            prices_of((n % 6 + i) % 6),
+            scratch,
+            places,
+        );
+        print_chosen(chosen, places);
+        end_line();
+    }
+}
+
+fn tell_small(scratch: &mut [u64], places: &mut [u16]) {
+    for n in 0..401 {
+        tell_dozen(n, scratch, places);
+    }
+}
+
+// ---- 64-bit numbers
+
+// What a chain needs, and which of its limits are asked for: 0 one below it, 1 at it, 2 one above it.
+struct Need {
+    position: u64,
+    parts: u64,
+    a: u64,
+    b: u64,
+    at_a: u64,
+    at_b: u64,
+}
+
+fn around(need: u64, at: u64) -> u8 {
+    if need > 254 {
+        return 255;
+    }
+    match at {
+        0 => {
+            if need == 0 {
+                return 0;
+            }
+            (need - 1) as u8
+        }
+        1 => need as u8,
+        _ => (need + 1) as u8,
+    }
+}
+
+fn variant(i: u64, need: Need) -> Limits {
+    match i {
+        3 => Limits {
+            parts: 255,
+            a: around(need.a, need.at_a),
+            b: 255,
+        },
+        4 => Limits {
+            parts: 255,
+            a: 255,
+            b: around(need.b, need.at_b),
+        },
+        _ => Limits {
+            parts: around(need.parts, i),
+            a: 255,
+            b: 255,
+        },
+    }
+}
+
+// What is chosen under a limit, or = where that is what was chosen without.
+fn print_compared(position: u64, chosen: Chosen) {
+    match chosen {
+        Chosen::Chain {
+            position: i,
+            k,
+            price,
+        } => {
+            if i == position {
+                io::write_all(STDOUT_FILENO, b"=");
+            } else {
+                print_three(i, k, price);
+            }
+        }
+        Chosen::Refused(r) => print(r as u64),
+    }
+}
+
+fn tell_limited(n: u64, need: Need, p: Prices, scratch: &mut [u64], places: &mut [u16]) {
+    for i in 0..5 {
+        let chosen = ask(n, variant(i, need), p, scratch, places);
+        print_compared(need.position, chosen);
+        space();
+    }
+    end_line();
+}
+
+// What the chain in the places needs.
+fn need_of(position: u64, k: u64, i: u64, table: &[u64], places: &[u16]) -> Need {
+    let mut first = 0;
+    if places.len() > 0 {
+        first = places[0];
+    }
+    let e = parts::exponents_of(parts::value_of(table, first));
+    Need {
+        position,
+        parts: k,
+        a: e.a,
+        b: e.b,
+        at_a: i % 3,
+        at_b: i / 3 % 3,
+    }
+}
+
+fn tell_around(n: u64, i: u64, table: &[u64], scratch: &mut [u64], places: &mut [u16]) {
+    let p = prices_of(i % 6);
+    let chosen = ask(n, limits_at(0), p, scratch, places);
+    print_chosen(chosen, places);
+    end_line();
+    let Chosen::Chain {
+        position,
+        k,
+        price: _,
+    } = chosen
+    else {
+        return;
+    };
+    let need = need_of(position, k, i, table, places);
+    tell_limited(n, need, p, scratch, places);
+}
+
+// The next random number.
+fn next(x: u64) -> u64 {
+    let y = x ^ (x << 13);
+    let z = y ^ (y >> 7);
+    z ^ (z << 17)
+}
+
+fn tell_random(table: &[u64], scratch: &mut [u64], places: &mut [u16]) {
+    let mut x = 88172645463325252;
+    for i in 0..1000 {
+        x = next(x);
+        tell_around(x, i, table, scratch, places);
+    }
+}
+
+// ---- numbers at the edges, and what is left in the lent memory
+
+fn hold(scratch: &mut [u64], places: &mut [u16]) {
+    let mut i = 0;
+    while i < scratch.len() {
+        scratch[i] = 9;
+        i += 1;
+    }
+    let mut j = 0;
+    while j < places.len() {
+        places[j] = 9;
+        j += 1;
+    }
+}
+
+// Where the run of x that begins at `from` ends.
+fn end_of_numbers(s: &[u64], from: usize, x: u64) -> usize {
+    let mut i = from;
+    while i < s.len() {
+        if s[i] != x {
+            return i;
+        }
+        i += 1;
+    }
+    i
+}
+
+fn end_of_places(s: &[u16], from: usize, x: u16) -> usize {
+    let mut i = from;
+    while i < s.len() {
+        if s[i] != x {
+            return i;
+        }
+        i += 1;
+    }
+    i
+}
+
+// Where the zeros of the scratch end, and what was there before after them; the same of the places, behind the first k.
+fn print_left(chosen: Chosen, scratch: &[u64], places: &[u16]) {
+    let mut from = 0;
+    if let Chosen::Chain {
+        position: _,
+        k,
+        price: _,
+    } = chosen {
+        from = k as usize;
+    }
+    let zeros = end_of_numbers(scratch, 0, 0);
+    let zero_places = end_of_places(places, from, 0);
+    space();
+    print(zeros as u64);
+    space();
+    print(end_of_numbers(scratch, zeros, 9) as u64);
+    space();
+    print(zero_places as u64);
+    space();
+    print(end_of_places(places, zero_places, 9) as u64);
+}
+
+fn tell_left(n: u64, l: Limits, scratch: &mut [u64], places: &mut [u16]) {
+    hold(scratch, places);
+    let chosen = ask(n, l, prices_of(0), scratch, places);
+    print_chosen(chosen, places);
+    print_left(chosen, scratch, places);
+    end_line();
+}
+
+// Eleven numbers under eight limits each, and the four examples under their own.
+fn tell_edges(scratch: &mut [u64], places: &mut [u16]) {
+    for i in 0..88 {
+        tell_left(number_at(i / 8), limits_at(10 + i % 8), scratch, places);
+    }
+    for j in 0..4 {
+        tell_left(number_at(11 + j), limits_at(18 + j), scratch, places);
+    }
+}
+
+fn main() {
+    let table = parts::table::copy();
+    let mut scratch = [0u64; 5250];
+    let mut places = [0u16; 66];
+    tell_small(&mut scratch, &mut places);
+    tell_random(&table, &mut scratch, &mut places);
+    tell_edges(&mut scratch, &mut places);
+    let mut short = [0u64; 5247];
+    tell_left(19, limits_at(0), &mut short, &mut places);
+    let mut few = [0u16; 63];
+    tell_left(19, limits_at(0), &mut scratch, &mut few);
+}
