@@ -27,7 +27,6 @@ use Rattle.grid.specs.Grid.{Meaning, RowFrom, RowAsked, RowFilled, RowsAsked, R
 use Rattle.grid.specs.Rests.{half-of-rest, third-of-rest, rest-dead, rest-at-top}
 use Rattle.grid.specs.Fill.{rows-above, column, asked-still, read-above, row-lent, row-more}
 use Rattle.best.specs.KeyTable.{
-  partWeight,
   noKey,
   Low,
   keyCell,
@@ -181,15 +180,18 @@ module _ {costs : List ℕ} {A B b m q : ℕ} {entry : List ℕ} (asked : RowOfK
       (h : top < 64)
       (a : top ≤ A)
       (n : NoKeys (2 * top + 2) 128 entry l) where
-    one : (f : Bool) → partWeight ≡ G′ top b f (m / 2 ^ top)
-    one f = rw (rest-at-top m top lo hi) (sym (cell-at-1 costs A B top b f a (asked .within)))
+    abbrev end : ℕ
+    end = getD costs 5 0
 
-    pub end-within : RowFilled G′ b m top entry (set (set l (2 * top + 1) partWeight) (2 * top) partWeight)
+    one : (f : Bool) → end ≡ G′ top b f (m / 2 ^ top)
+    one f = rw (rest-at-top m top lo hi) (sym (cell-at-1 costs A B top b f (asked .low) a (asked .within)))
+
+    pub end-within : RowFilled G′ b m top entry (set (set l (2 * top + 1) end) (2 * top) end)
     end-within =
-        column G′ b m top (suc top) entry l partWeight partWeight refl h (asked .asked .room) (one true) (one false)
+        column G′ b m top (suc top) entry l end end refl h (asked .asked .room) (one true) (one false)
         (dead-columns (2 * top + 2) (suc top) l (omega arith) n (λ i g. inl (rest-dead m (suc top) i hi g)))
 
-    pub within-asked : BelowAsked costs A B b m q top partWeight (set (set l (2 * top + 1) partWeight) (2 * top) partWeight)
+    pub within-asked : BelowAsked costs A B b m q top end (set (set l (2 * top + 1) end) (2 * top) end)
     within-asked = below-from end-within h lo (one false)
 
   -- It ends behind the limit: `start` is the first column outside.

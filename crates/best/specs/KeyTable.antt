@@ -32,10 +32,9 @@ partWeight = 2 ^ 32
 abbrev pub noKey : ℕ
 noKey = 2 ^ 40
 
--- What the letters 0 to 3 cost where they are not the last, and a fifth number in the place of a letter: what a rise costs that may not
--- be made.
+-- What the letters 0 to 3 cost where they are not the last, what a rise costs that may not be made, and what the last point costs.
 abbrev pub letterCosts : Prices → List ℕ
-letterCosts π = π .d ∷ (partWeight + π .s + π .d) ∷ π .t ∷ (partWeight + π .s + π .t) ∷ noKey ∷ []
+letterCosts π = π .d ∷ (partWeight + π .s + π .d) ∷ π .t ∷ (partWeight + π .s + π .t) ∷ noKey ∷ partWeight ∷ []
 
 -- The costs that such a list tells.
 unfoldable pub letterBy : List ℕ → ℕ → ℕ
@@ -46,7 +45,7 @@ letterBy costs (suc (suc (suc zero))) = getD costs 3 0
 letterBy costs (suc (suc (suc (suc l)))) = 0
 
 abbrev pub costsBy : List ℕ → Costs
-costsBy costs = record { letter = letterBy costs; last = partWeight }
+costsBy costs = record { letter = letterBy costs; last = getD costs 5 0 }
 
 -- Every cost is at most `noKey`, and a rise that may not be made costs as much.
 pub record Low (costs : List ℕ) : Type 0 where
@@ -68,7 +67,8 @@ prices-low π c = record { each = each; shut = refl }
     each (suc (suc zero)) = omega arith
     each (suc (suc (suc zero))) = omega arith
     each (suc (suc (suc (suc zero)))) = omega arith
-    each (suc (suc (suc (suc (suc l))))) = omega arith
+    each (suc (suc (suc (suc (suc zero))))) = omega arith
+    each (suc (suc (suc (suc (suc (suc l)))))) = omega arith
 
 pub prices-costs : (π : Prices) → costsBy (letterCosts π) ≡ costsOf partWeight π
 unfolding costsOf letterCost letterBy
@@ -119,12 +119,12 @@ module _ (costs : List ℕ) (A B a b : ℕ) (f : Bool) where
       let k = inside-bounds A B point .0 i in
       ⊎-elim (λ (z : suc m ≡ 0). omega arith) (⊎-elim (λ (l : A < a). omega arith) (λ (l : B < b). omega arith)) h)
 
-  pub cell-at-1 : a ≤ A → b ≤ B → keyCell costs A B a b f 1 ≡ partWeight
+  pub cell-at-1 : Low costs → a ≤ A → b ≤ B → keyCell costs A B a b f 1 ≡ getD costs 5 0
   unfolding keyCell
-  cell-at-1 ha hb = least-one noKey (costsBy costs) A B f point ∙ go (inside A B point) (inside-bounds A B point .1 (ha, hb))
+  cell-at-1 low ha hb = least-one noKey (costsBy costs) A B f point ∙ go (inside A B point) (inside-bounds A B point .1 (ha, hb))
     where
-      go : (i : Bool) → T i → cond i (min noKey partWeight) noKey ≡ partWeight
-      go true h = refl
+      go : (i : Bool) → T i → cond i (min noKey (getD costs 5 0)) noKey ≡ getD costs 5 0
+      go true h = omega (arith, low .each 5)
       go false h = absurd h
 
 -- ---- a cell from its neighbours

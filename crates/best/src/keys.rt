@@ -20,8 +20,8 @@ pub const PART: u64 = 1 << 32;
 // The key of no word.
 const NONE: u64 = 1 << 40;
 
-// What the letters 0 to 3 cost where they are not the last. The fifth number stands for a rise that may not be made.
-pub fn letter_costs(d: u16, t: u16, s: u16) -> [u64; 5]
+// What the letters 0 to 3 cost where they are not the last, what a rise costs that may not be made, and what the last point costs.
+pub fn letter_costs(d: u16, t: u16, s: u16) -> [u64; 6]
     ensures { λ r. ⌜ r ≡ letterCosts (pricesOf d t s) ⌝ }
 {
     let addition = PART + s as u64;
@@ -31,6 +31,7 @@ pub fn letter_costs(d: u16, t: u16, s: u16) -> [u64; 5]
         t as u64,
         addition + t as u64,
         NONE,
+        PART,
     ]
 }
 
@@ -61,7 +62,7 @@ struct Cell {
 
 // A cell from a rest of 2 on, where `right` is the second number of the cell right of it, not yet cut, and `above` the first of the
 // cell above it. The remainder by three is 0, 1 or 2: at 1 both readers let b rise, at 0 the first alone, at 2 none.
-fn cell_of(rest: u64, third: u64, right: u64, above: u64, costs: &[u64; 5]) -> Cell
+fn cell_of(rest: u64, third: u64, right: u64, above: u64, costs: &[u64; 6]) -> Cell
     requires { ⌜ CellAsked (now costs) rest third right above ⌝ }
     ensures { λ r. ⌜ CellBy (now (costs .entry)) rest right above (r .free) (r .after) ⌝ }
 {
@@ -82,7 +83,7 @@ fn fill_below(
     b: usize,
     start: usize,
     right: u64,
-    costs: &[u64; 5],
+    costs: &[u64; 6],
     doublings: usize,
     triplings: usize,
 )
@@ -106,7 +107,7 @@ fn fill_row(
     m: u64,
     q: u64,
     b: usize,
-    costs: &[u64; 5],
+    costs: &[u64; 6],
     doublings: usize,
     triplings: usize,
 )
@@ -115,10 +116,11 @@ fn fill_row(
 {
     let top = 63 - u64::leading_zeros(m) as usize;
     if top <= doublings {
+        let end = costs[5];
         fill_none(part, 2 * top + 2, 128);
-        part[2 * top + 1] = PART;
-        part[2 * top] = PART;
-        fill_below(part, m, q, b, top, PART, costs, doublings, triplings);
+        part[2 * top + 1] = end;
+        part[2 * top] = end;
+        fill_below(part, m, q, b, top, end, costs, doublings, triplings);
     } else {
         let start = doublings + 1;
         fill_none(part, 2 * start, 128);
@@ -132,7 +134,7 @@ pub fn fill_rows(
     scratch: &mut [u64],
     b: usize,
     m: u64,
-    costs: &[u64; 5],
+    costs: &[u64; 6],
     doublings: usize,
     triplings: usize,
 )

@@ -1,49 +1,61 @@
 // The walk along a table of keys that writes the best word. It goes along the letters of the word, from the point (0, 0) up; the next
 // letter's index is a + b.
 ghost use mathlib.Core.Path.{_≡_};
+ghost use Prim.Native.Nat.{_≤_};
+ghost use Rattle.best.specs.KeyTable.{riseOf};
 ghost use Rattle.best.specs.Walk.{KeyStep, KeyRisen, KeyStart, BestWritten};
 
-// A point of the walk: the rest there, the key of the letters from there on, and the letter passed last.
+// A point of the walk: which reader goes on there, the rest, and the letter passed last.
 struct Walk {
     a: usize,
     b: usize,
+    free: bool,
     rest: u64,
-    least: u64,
     letter: u8,
 }
 
-// One letter of the walk: a rises where that keeps the least key, else b. So of two words with that key the earlier one is chosen.
+// The place of the cost of a rise of b, at a remainder by three.
+fn rise_of(free: bool, rem: usize) -> usize
+    requires { ⌜ rem ≤ 2 ⌝ }
+    ensures { λ r. ⌜ (r ≡ riseOf free rem) × (r ≤ 4) ⌝ }
+{
+    if free { 2 + rem } else { 4 - rem % 2 }
+}
+
+// One letter of the walk: a rises where its key is no larger than that of b. So of two words with the same key the earlier one is
+// chosen.
 fn walk_step(
     n: u64,
     scratch: &[u64],
-    costs: &[u64; 5],
+    costs: &[u64; 6],
     doublings: usize,
     triplings: usize,
     w: Walk,
 ) -> Walk
-    requires { ⌜ KeyStep (now costs) doublings triplings n (now scratch) (w .a) (w .b) (w .rest) (w .least) ⌝ }
-    ensures { λ r. ⌜ KeyRisen (now (costs .entry)) doublings triplings n (w .a) (w .b) (r .letter) (r .a) (r .b) (r .rest) (r .least) ⌝ }
+    requires { ⌜ KeyStep (now costs) doublings triplings n (now scratch) (w .a) (w .b) (w .free) (w .rest) ⌝ }
+    ensures { λ r. ⌜ KeyRisen (now (costs .entry)) doublings triplings n (w .a) (w .b) (r .letter) (r .a) (r .b) (r .free) (r .rest) ⌝ }
 {
     let a = w.a;
     let b = w.b;
     let rest = w.rest;
     let cell = 128 * b + 2 * a;
-    let right = scratch[cell + 3];
-    if right + costs[(rest % 2) as usize] == w.least {
+    let rise = rise_of(w.free, (rest % 3) as usize);
+    let half = scratch[cell + 3] + costs[(rest % 2) as usize];
+    let third = scratch[cell + 128] + costs[rise];
+    if half <= third {
         return Walk {
             a: a + 1,
             b,
+            free: false,
             rest: rest / 2,
-            least: right,
             letter: (rest % 2) as u8,
         };
     }
-    let above = scratch[cell + 128];
     Walk {
         a,
         b: b + 1,
+        free: true,
         rest: rest / 3,
-        least: above,
         letter: (2 + rest % 3) as u8,
     }
 }
@@ -52,7 +64,7 @@ fn walk_step(
 pub fn write_best(
     n: u64,
     scratch: &[u64],
-    costs: &[u64; 5],
+    costs: &[u64; 6],
     doublings: usize,
     triplings: usize,
     letters: &mut [u8],
@@ -63,8 +75,8 @@ pub fn write_best(
     let mut w = Walk {
         a: 0,
         b: 0,
+        free: true,
         rest: n,
-        least: scratch[0],
         letter: 0,
     };
     while w.rest > 1 {

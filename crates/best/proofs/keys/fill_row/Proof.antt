@@ -21,9 +21,9 @@ sub-top c =
 fill-below-requires : tie.Need-fill-below-requires
 fill-below-requires c κs =
     let n = c .before .before .before in
-    let s = n .before .before .before .before in
+    let s = n .before .before .before .before .before in
     let t = top-of (s .args .m) (s .pre .some) (s .fits .m .fits) in
-    within-asked (s .pre) _ (t .1) (t .2) (omega arith) (n .before .before .if1 .taken) (n .fill-none .ensures)
+    within-asked (s .pre) _ (t .1) (t .2) (omega arith) (n .before .before .before .if1 .taken) (n .fill-none .ensures)
 
 fill-below-requires-2 : tie.Need-fill-below-requires-2
 fill-below-requires-2 c κs =
@@ -35,10 +35,10 @@ fill-below-requires-2 c κs =
 returns : tie.Need-returns
 returns c =
     let n = c .before .before .before .before .before .before in
-    let s = n .before .before .before .before in
+    let s = n .before .before .before .before .before in
     let t = top-of (s .args .m) (s .pre .some) (s .fits .m .fits) in
     filled-on _
-    (end-within (s .pre) _ (t .1) (t .2) (omega arith) (n .before .before .if1 .taken) (n .fill-none .ensures))
+    (end-within (s .pre) _ (t .1) (t .2) (omega arith) (n .before .before .before .if1 .taken) (n .fill-none .ensures))
     (c .before .before .fill-below .ensures)
 
 returns-2 : tie.Need-returns-2
@@ -56,6 +56,7 @@ fill-row-spec =
     (tie.spec
     cast-top
     sub-top
+    (λ c. search needs)
     (λ c. search needs)
     (λ c. search needs)
     (λ c κs. search needs)

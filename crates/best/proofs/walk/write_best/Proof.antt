@@ -9,28 +9,27 @@ use Rattle.best.proofs.walk.write_best.Tie as tie
 
 abbrev Inv-loop : tie.InvT-loop
 Inv-loop n scratch costs doublings triplings letters₀ w₀ letters w =
-    KeyWriting costs doublings triplings n letters₀ letters (w .a) (w .b) (w .rest) (w .least)
+    KeyWriting costs doublings triplings n letters₀ letters (w .a) (w .b) (w .free) (w .rest)
 
 abbrev μ-loop : tie.MeasureT-loop
 μ-loop n scratch costs doublings triplings letters₀ w₀ letters w = 64 - (w .a + w .b)
 
 loop-holds : tie.Need-loop-holds Inv-loop μ-loop
-loop-holds c = walk-start (c .before .before .before .pre)
+loop-holds c = walk-start (c .before .before .pre)
 
 walk-step-requires : tie.Need-walk-step-requires Inv-loop μ-loop
 walk-step-requires c κs =
-    let l = c .before .before .before .loop in
-    let s = c .before .before .before .before .before .before .before in
-    step-asked (s .pre .keys) (l .inv .walked) (c .before .if1 .taken) (s .fits .n .fits)
+    let l = c .before .before .before in
+    let s = l .before .before .before in
+    step-asked (s .pre .keys) (l .loop .inv .walked) (c .before .if1 .taken) (s .fits .n .fits)
 
 loop-less : tie.Need-loop-less Inv-loop μ-loop
 loop-less c = omega (arith, c .walk-step .ensures .passed)
 
 loop-again : tie.Need-loop-again Inv-loop μ-loop
 loop-again c =
-    let l = c .before .before .before .before .loop in
-    let s = c .before .before .before .before .before .before .before .before in
-    walk-more (l .inv) (s .fits .n .fits) (c .walk-step .ensures)
+    let l = c .before .before .before .before in
+    walk-more (l .loop .inv) (l .before .before .before .fits .n .fits) (c .walk-step .ensures)
 
 returns : tie.Need-returns Inv-loop μ-loop
 returns c = walk-end (c .before .before .before .loop .inv) (c .before .if1 .left)
@@ -41,7 +40,6 @@ write-best-spec =
     (tie.spec
     Inv-loop
     μ-loop
-    (λ c. search needs)
     loop-holds
     (λ c. search needs)
     walk-step-requires
