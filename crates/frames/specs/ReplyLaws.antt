@@ -198,6 +198,10 @@ reply-frame line = go (shapeOf line)
     go (unfit r) = refusal-frame r
     go (fit k) = served-frame k line
 
+-- So it fits into the bytes that are lent for it.
+pub reply-short : (line : List ℕ) → length (replyOf line) ≤ 514
+reply-short line = omega (arith, reply-frame line .most)
+
 -- ---- what a chain's reply is read back as
 
 -- The part numbers of a chain of a number below 2^64.

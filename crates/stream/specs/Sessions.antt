@@ -1,0 +1,59 @@
+-- All calls on a file together: however the file is cut into blocks, and however much of a block each call uses, what the calls write is
+-- one reply for each line of the file, in order.
+--
+-- In this order: a call moves on; what it writes and keeps; the calls on a file; the theorem.
+use mathlib.Core.Path.{_≡_, refl, sym, ap, _∙_}
+use mathlib.Core.List.{List, [], _∷_, _++_, flatten}
+use Prim.Native.Nat.{ℕ, zero, suc, _+_, _≤_, _<_}
+use native.Mathlib.Omega.{arith}
+use lib.ListN.{length, take}
+use lib.Seq.{take-at}
+use Rattle.lent.specs.Lent.{filled-first}
+use Rattle.lines.specs.Stream.{finished, unfinished, lastLine, linesOf, repliesTo, answersTo}
+use Rattle.lines.specs.StreamLaws.{answers-lines}
+use Rattle.frames.specs.Replies.{replyOf}
+use Rattle.frames.specs.ReplyLaws.{first-515}
+use Rattle.stream.specs.Answers.{behind, Wrote, Goes, Answered}
+use Rattle.stream.specs.declared.Fed.{Fed}
+
+-- ---- a call moves on
+
+-- It uses some of a block that is not empty, so that a caller's loop comes to the block's end.
+pub moves-on : (line block out exit : List ℕ) (used written : ℕ) → Goes line block out exit used written → 515 ≤ length out → 0 < length block → 0 < used
+unfolding finished repliesTo
+moves-on line block out exit zero written g room some-there = absurd (omega (arith, g .stops some-there, g .wrote .count))
+moves-on line block out exit (suc used) written g room some-there = omega arith
+
+-- ---- what it writes and keeps
+
+pub what-wrote : (lines : List (List ℕ)) (out exit : List ℕ) (n : ℕ) → Wrote lines out exit n → take n exit ≡ repliesTo replyOf lines
+what-wrote lines out exit n w =
+    ap (take n) (w .replies) ∙ take-at (repliesTo replyOf lines) (behind lines out) n (sym (w .count))
+
+pub what-kept : (line block kept keptExit out outExit : List ℕ) (r : Fed) → Answered line block kept keptExit out outExit r
+    → take (r .kept) keptExit ≡ take 515 (unfinished line (take (r .used) block))
+what-kept line block kept keptExit out outExit r a = rw (a .keeps, a .count) (filled-first 515 (take 515 (unfinished line (take (r .used) block))) kept)
+
+-- ---- the calls on a file
+
+-- `line` was kept before; `pieces` is what each call uses of its block; `written` is what all of them write. A call on a block hands what
+-- it keeps to the next one; the last call is the one at the end of the file.
+pub data Session : List ℕ → List (List ℕ) → List ℕ → Type 0 where
+  end-call : (line out exit : List ℕ) (n : ℕ) → Wrote (lastLine line) out exit n → Session line [] (take n exit)
+  block-call : (line block kept keptExit out outExit : List ℕ) (r : Fed) (pieces : List (List ℕ)) (written : List ℕ)
+      → Answered line block kept keptExit out outExit r → Session (take (r .kept) keptExit) pieces written
+      → Session line (take (r .used) block ∷ pieces) (take (r .written) outExit ++ written)
+
+session-answers : {line : List ℕ} {pieces : List (List ℕ)} {written : List ℕ} → Session line pieces written
+    → written ≡ answersTo replyOf 515 line pieces
+unfolding answersTo
+session-answers (end-call line out exit n w) = what-wrote (lastLine line) out exit n w
+session-answers (block-call line block kept keptExit out outExit r pieces written a s) =
+    rw
+    (what-wrote _ out outExit (r .written) (a .goes .wrote), ← what-kept line block kept keptExit out outExit r a, ← session-answers s)
+
+-- ---- the theorem
+
+-- From the start of a file, which the pieces make: the replies to its lines.
+pub session-replies : (pieces : List (List ℕ)) (written : List ℕ) → Session [] pieces written → written ≡ repliesTo replyOf (linesOf (flatten pieces))
+session-replies pieces written s = session-answers s ∙ answers-lines replyOf 515 (omega arith) first-515 pieces

@@ -1,0 +1,209 @@
+// Answering a file of lines block by block: document 01, 'Frames'. A line ends at byte 10; each reply is followed by a byte 10. Of a line
+// that a block does not end, the first 515 characters are kept for the next block: a line that long is refused whatever follows.
+// Every public function here takes any input.
+use frames::Replied;
+ghost use mathlib.Core.Path.{_≡_};
+ghost use mathlib.Core.Bool.{true, false};
+ghost use mathlib.Core.List.{[], _++_};
+ghost use Prim.Native.Nat.{_+_, _≤_, min};
+ghost use lib.ListN.{length, take, drop};
+ghost use Rattle.lent.specs.Lent.{filled};
+ghost use Rattle.lines.specs.Stream.{unfinished};
+ghost use Rattle.frames.specs.Replies.{replyOf};
+ghost use Rattle.stream.specs.Answers.{Enough, Goes, BlockAnswer, EndAnswer};
+ghost use Rattle.stream.specs.Pieces.{LineEnd, Later, Keeps, Adds, digitsTold};
+
+// How much of a block was used, how many characters are kept of the line that it leaves unfinished, and how many bytes of replies were
+// written.
+pub struct Fed {
+    pub used: usize,
+    pub kept: usize,
+    pub written: usize,
+}
+
+// Whether enough is lent, by the numbers of places.
+fn is_enough(kept: usize, k: usize, scratch: usize, out: usize) -> bool
+    ensures { λ r. ⌜ (r ≡ true → Enough kept k scratch out) ⌝ }
+    ensures { λ r. ⌜ (r ≡ false → Enough kept k scratch out → ⊥) ⌝ }
+{
+    if kept < 515 {
+        return false;
+    }
+    if k > 515 {
+        return false;
+    }
+    if scratch < 5248 {
+        return false;
+    }
+    out >= 515
+}
+
+// The place of the first byte 10 of the block from `from` on, and the block's length where there is none.
+fn line_end(block: &[u8], from: usize) -> usize
+    requires { ⌜ from ≤ length (now block) ⌝ }
+    ensures { λ r. ⌜ LineEnd (now (block .entry)) from r ⌝ }
+{
+    let mut i = from;
+    while i < block.len() {
+        if block[i] == 10 {
+            return i;
+        }
+        i += 1;
+    }
+    i
+}
+
+fn least(a: usize, b: usize) -> usize
+    ensures { λ r. ⌜ r ≡ min a b ⌝ }
+{
+    if a < b { a } else { b }
+}
+
+// Adds a piece to the k characters that are kept of a line, up to 515 in all, and tells how many are kept then.
+fn keep(part: &[u8], kept: &mut [u8], k: usize) -> usize
+    requires { ⌜ (k ≤ 515) × (515 ≤ length (now kept)) ⌝ }
+    ensures { λ r. ⌜ Keeps (take k (now (kept .entry)) ++ now (part .entry)) (now (kept .entry)) (now (kept .exit)) r ⌝ }
+{
+    let more = least(515 - k, part.len());
+    let mut i = 0;
+    while i < more {
+        kept[k + i] = part[i];
+        i += 1;
+    }
+    k + more
+}
+
+// How many digits a reply has.
+fn digits_told(r: Replied) -> usize
+    ensures { λ n. ⌜ n ≡ digitsTold r ⌝ }
+{
+    match r {
+        Replied::Digits(n) => n as usize,
+        Replied::Refused(_) => 2,
+    }
+}
+
+// Writes the reply to a line at the start of a part, and tells its length.
+fn put_reply(line: &[u8], scratch: &mut [u64], part: &mut [u8]) -> usize
+    requires { ⌜ (5248 ≤ length (now scratch)) × (514 ≤ length (now part)) ⌝ }
+    ensures { λ r. ⌜ (r ≡ length (replyOf (now (line .entry)))) × (r ≤ 514) ⌝ }
+    ensures { λ _. ⌜ now (part .exit) ≡ filled 514 (replyOf (now (line .entry))) (now (part .entry)) ⌝ }
+    ensures { λ _. ⌜ now (scratch .exit) ≡ filled 5248 [] (now (scratch .entry)) ⌝ }
+{
+    digits_told(frames::reply(line, scratch, part))
+}
+
+// Writes the reply to a line and its byte 10 at `at`, and tells where they end.
+fn answer_line(line: &[u8], scratch: &mut [u64], out: &mut [u8], at: usize) -> usize
+    requires { ⌜ (5248 ≤ length (now scratch)) × (at + 515 ≤ length (now out)) ⌝ }
+    ensures { λ r. ⌜ Adds (replyOf (now (line .entry))) at (now (out .entry)) (now (out .exit)) r ⌝ }
+    ensures { λ _. ⌜ now (scratch .exit) ≡ filled 5248 [] (now (scratch .entry)) ⌝ }
+{
+    let end = at + put_reply(line, scratch, &mut out[at..]);
+    out[end] = 10;
+    end + 1
+}
+
+// Answers the line that the k kept characters and a part make. Where none are kept, the part is the line and is not copied.
+fn finish_line(
+    part: &[u8],
+    kept: &mut [u8],
+    k: usize,
+    scratch: &mut [u64],
+    out: &mut [u8],
+    at: usize,
+) -> usize
+    requires { ⌜ Enough (length (now kept)) k (length (now scratch)) (length (now out)) ⌝ }
+    requires { ⌜ at + 515 ≤ length (now out) ⌝ }
+    ensures { λ r. ⌜ Adds (replyOf (take k (now (kept .entry)) ++ now (part .entry))) at (now (out .entry)) (now (out .exit)) r ⌝ }
+    ensures { λ _. ⌜ now (scratch .exit) ≡ filled 5248 [] (now (scratch .entry)) ⌝ }
+    ensures { λ _. ⌜ Later 515 (now (kept .entry)) (now (kept .exit)) ⌝ }
+{
+    if k == 0 {
+        return answer_line(part, scratch, out, at);
+    }
+    let n = keep(part, kept, k);
+    answer_line(&kept[0..n], scratch, out, at)
+}
+
+// Answers the lines that end in a block, as many as `out` has room for, and keeps the line that the block leaves unfinished.
+fn answer_lines(block: &[u8], kept: &mut [u8], k: usize, scratch: &mut [u64], out: &mut [u8]) -> Fed
+    requires { ⌜ Enough (length (now kept)) k (length (now scratch)) (length (now out)) ⌝ }
+    ensures { λ r. ⌜ Goes (take k (now (kept .entry))) (now (block .entry)) (now (out .entry)) (now (out .exit)) (r .used) (r .written) ⌝ }
+    ensures { λ r. ⌜ Keeps (unfinished (take k (now (kept .entry))) (take (r .used) (now (block .entry)))) (now (kept .entry)) (now (kept .exit)) (r .kept) ⌝ }
+    ensures { λ _. ⌜ Later 5248 (now (scratch .entry)) (now (scratch .exit)) ⌝ }
+{
+    let mut at = 0;
+    let mut left = k;
+    let mut written = 0;
+    let mut end = line_end(block, 0);
+    while end < block.len() {
+        if out.len() - written < 515 {
+            return Fed {
+                used: at,
+                kept: left,
+                written,
+            };
+        }
+        written = finish_line(&block[at..end], kept, left, scratch, out, written);
+        left = 0;
+        at = end + 1;
+        end = line_end(block, at);
+    }
+    left = keep(&block[at..], kept, left);
+    Fed {
+        used: block.len(),
+        kept: left,
+        written,
+    }
+}
+
+// Zeroes the places behind the n characters that are kept, up to 515.
+fn clear_behind(kept: &mut [u8], n: usize)
+    requires { ⌜ (n ≤ 515) × (515 ≤ length (now kept)) ⌝ }
+    ensures { λ _. ⌜ now (kept .exit) ≡ filled 515 (take n (now (kept .entry))) (now (kept .entry)) ⌝ }
+{
+    lent::clear_u8(&mut kept[n..515]);
+}
+
+// Answers a block of a file. The first k of `kept` hold what was kept of the line that the block goes on with, nothing at the start of a
+// file. `out` gets the replies to the lines that end in the block, as many as there is room for: 515 bytes are asked for each, which take
+// the longest reply. What the answer says to be used of the block is done with; the rest of it is for the next call. `kept` gets the first
+// 515 characters of the line that is left unfinished, then zeros up to 515; the scratch gets zeros up to 5,248; both keep what stands
+// after. Where less than 5,248 of scratch, 515 of kept or 515 of out is lent, or k is above 515, nothing is touched.
+pub fn answer_block(
+    block: &[u8],
+    kept: &mut [u8],
+    k: usize,
+    scratch: &mut [u64],
+    out: &mut [u8],
+) -> Fed
+    ensures { λ r. ⌜ BlockAnswer (now (block .entry)) k (now (kept .entry)) (now (kept .exit)) (now (scratch .entry)) (now (scratch .exit)) (now (out .entry)) (now (out .exit)) r ⌝ }
+{
+    if !is_enough(kept.len(), k, scratch.len(), out.len()) {
+        return Fed {
+            used: 0,
+            kept: k,
+            written: 0,
+        };
+    }
+    let fed = answer_lines(block, kept, k, scratch, out);
+    clear_behind(kept, fed.kept);
+    lent::clear_u64(&mut scratch[0..5248]);
+    fed
+}
+
+// Answers what is kept at the end of a file: a line, unless it is empty. Tells how many bytes were written. The scratch gets zeros up to
+// 5,248. Where less is lent than `answer_block` asks for, 0 is told and nothing is touched.
+pub fn answer_end(kept: &[u8], k: usize, scratch: &mut [u64], out: &mut [u8]) -> usize
+    ensures { λ r. ⌜ EndAnswer (now (kept .entry)) k (now (scratch .entry)) (now (scratch .exit)) (now (out .entry)) (now (out .exit)) r ⌝ }
+{
+    if !is_enough(kept.len(), k, scratch.len(), out.len()) {
+        return 0;
+    }
+    if k == 0 {
+        lent::clear_u64(&mut scratch[0..5248]);
+        return 0;
+    }
+    answer_line(&kept[0..k], scratch, out, 0)
+}
