@@ -104,15 +104,15 @@ found-reply (gives n c) p p′ e h =
     (room, rw numbers)
 
 -- A service with the outcome o was lent the scratch s and the places p. It answered f and left p′ in the places.
-module _ (o : Outcome) (f : Found) (s p p′ : List ℕ) (numbers : scratchSize ≤ length s) (room : length p ≡ 64) where
-  module _ (answer : f ≡ answerOf (lent s p o)) (left : p′ ≡ placesLeft (lent s p o) p) (same : length p′ ≡ 64) where
-    as-outcome : (partsIn f ≤ 64) × (foundReply f p′ ≡ chainReply o)
-    as-outcome = rw (answer, own-outcome s p numbers room o) (found-reply o p p′ (rw own-outcome at left) same)
+module _ (o : Outcome) (f : Found) (s p p′ : List ℕ) (numbers : scratchSize ≤ length s) (room : length p ≡ 64)
+    (answer : f ≡ answerOf (lent s p o)) (left : p′ ≡ placesLeft (lent s p o) p) (same : length p′ ≡ 64) where
+  as-outcome : (partsIn f ≤ 64) × (foundReply f p′ ≡ chainReply o)
+  as-outcome = rw (answer, own-outcome s p numbers room o) (found-reply o p p′ (rw own-outcome at left) same)
 
-    pub found-fits : partsIn f ≤ 64
-    found-fits = as-outcome .0
+  pub found-fits : partsIn f ≤ 64
+  found-fits = as-outcome .0
 
-    pub found-handled : (s′ : List ℕ) {r : Replied} {out out′ : List ℕ} → s′ ≡ scratchLeft (tooLittle s p) s → Told (foundReply f p′) r out out′
-        → Handled (chainReply o) r s s′ out out′
-    found-handled s′ e told =
-        record { told = rw (as-outcome .1) at told; zeroed = scratch-zeroed s p numbers room s′ e }
+  pub found-handled : (s′ : List ℕ) {r : Replied} {out out′ : List ℕ} → s′ ≡ scratchLeft (tooLittle s p) s → Told (foundReply f p′) r out out′
+      → Handled (chainReply o) r s s′ out out′
+  found-handled s′ e told =
+      record { told = rw (as-outcome .1) at told; zeroed = scratch-zeroed s p numbers room s′ e }

@@ -94,7 +94,11 @@ module _ (line ds : List ℕ) (b : BestReply line ds) where
       let c = b .chain in
       let cheap = prices-cheap line in
       let low = price-fits n (pricesIn line) (number-low line 1) (cheap .d) (cheap .t) (cheap .s) c (b .best .chain) in
-      rw (b .digits) (reply-read n c (digitsOf 8 (price (pricesIn line) c)) (b .best .chain) (number-low line 1), price-read n (position n c) (map placeOf c) (price (pricesIn line) c) low)
+      let cost = price (pricesIn line) c in
+      rw (b .digits) (
+        reply-read n c (digitsOf 8 cost) (b .best .chain) (number-low line 1),
+        price-read n (position n c) (map placeOf c) cost low,
+      )
 
   -- Without the price's digits the reply leads to the lines of kinds 03 and 04 about its chain.
   pub best-leads : (es : List ℕ) × (cost : ℕ) × (ds ≡ es ++ digitsOf 8 cost) × Leads es

@@ -24,7 +24,7 @@ pub record Told (x : Reply) (r : Replied) (out out′ : List ℕ) : Type 0 where
   pub digits : out′ ≡ filled 514 (digitsIn x) out
 
 -- Enough is lent.
-pub record Lent (scratch out : List ℕ) : Type 0 where
+pub record EnoughLent (scratch out : List ℕ) : Type 0 where
   pub numbers : scratchSize ≤ length scratch
   pub room : 514 ≤ length out
 

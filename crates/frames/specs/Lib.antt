@@ -1,10 +1,17 @@
--- Replies to lines. ReplyDigits defines the digits of replies, Replies the reply to a line and what a call leaves behind; Put is on digits
--- written into the bytes that are lent for a reply, Calls on the calls that serve a line.
-pub mod Put
+-- Replies to lines.
+--   ReplyDigits  the digits of replies
+--   Replies      the reply to a line, and what a call answers and leaves behind: the definitions that the contract rests on
+--   ReadBack     digits that were written, read back as fields
+--   ReplyLaws    515 characters; every reply is a frame; a chain's reply read back
+--   LineTrips    demand 2, line by line
+--   BestLines    demand 3, line by line
+--   Put          digits written into the bytes that are lent for a reply
+--   Calls        what the calls that serve a line ask for and leave
 pub mod ReplyDigits
 pub mod Replies
-pub mod Calls
 pub mod ReadBack
 pub mod ReplyLaws
 pub mod LineTrips
 pub mod BestLines
+pub mod Put
+pub mod Calls

@@ -6,7 +6,7 @@
 -- Kind 02 is in BestLines. The same of the services' answers is in ranking, RoundTrips.
 use mathlib.Core.Path.{_≡_, refl, sym, ap, _∙_}
 use mathlib.Core.Logic.{⊎-elim}
-use mathlib.Core.Bool.{Bool, true, false}
+use mathlib.Core.Bool.{true}
 use mathlib.Core.List.{List, [], map, _++_, append-nil, append-assoc}
 use mathlib.Core.Option.{some}
 use Prim.Native.Nat.{ℕ, _+_, _*_, _^_, _≤_, _<_}
@@ -26,12 +26,12 @@ use Rattle.ranking.specs.Outcomes.{at-past, at-chain, of-chain, next-below, nex
 use Rattle.digits.specs.Digits.{isDigit, digitsOf}
 use Rattle.digits.specs.DigitLaws.{every-append, length-digits, allDigits-digits}
 use Rattle.lines.specs.Kinds.{Kind, counting, choosing, placing, recording, wording, following, kindOf, byteOf, bytesIn}
-use Rattle.lines.specs.Lines.{field, fields, fieldsIn, lettersIn, numbersIn}
+use Rattle.lines.specs.Lines.{field, fields, fieldsIn}
 use Rattle.lines.specs.LineLaws.{Fit, line-fit, kind-byte}
 use Rattle.frames.specs.ReplyDigits.{valuesDigits, chainDigits, length-values, every-values}
 use Rattle.frames.specs.ReadBack.{Fitting, field-after, field-first, fields-after, fields-first, ChainRead}
 use Rattle.frames.specs.Replies.{refusedAs, servedWith, chainReply, served, replyTo}
-use Rattle.frames.specs.ReplyLaws.{reply-fit, served-kind, Sound, at-sound, word-sound, next-sound, record-sound, number-low, numbers-fit, position-low, reply-read}
+use Rattle.frames.specs.ReplyLaws.{reply-fit, served-kind, Sound, endsWithChain, served-chain, numbers-fit, position-low, reply-read}
 
 -- ---- lines made of values
 
@@ -67,6 +67,7 @@ byte-low following = omega arith
 first-byte : (k : Kind) (l : List ℕ) → kindOf (field (digitsOf 2 (byteOf k) ++ l) 0 1) ≡ some k
 first-byte k l = ap kindOf (field-first 1 (byteOf k) l (byte-low k)) ∙ kind-byte k
 
+-- A line of kind 03.
 module _ (n i : ℕ) where
   length-at : length (atLine n i) ≡ 34
   unfolding atLine
@@ -100,6 +101,7 @@ module _ (n i : ℕ) where
   unfolding served
   at-reply f g = reply-fit (atLine n i) placing (line-fit (atLine n i) placing at-fit) ∙ rw (at-number f, at-position g)
 
+-- A line of values, as many as fit into it.
 module _ (k : Kind) (width : ℕ) (xs : List ℕ) (few : length xs ≤ 255) (short : width * length xs ≤ 255)
     (bytes : (c : ℕ) → bytesIn k c ≡ 2 + width * c) where
   length-list : length (listLine k width xs) ≡ 2 * (2 + width * length xs)
@@ -138,6 +140,7 @@ module _ (k : Kind) (width : ℕ) (xs : List ℕ) (few : length xs ≤ 255) (sho
       ∙ e (listLine k width xs)
       ∙ ap (λ (l : List ℕ). chainReply (outcome l)) (list-values f)
 
+-- The replies to a record, a word, and a word for the next chain.
 pub record-reply : (l : List ℕ) → length l ≤ 127 → Fitting 2 l → replyTo (recordLine l) ≡ chainReply (ofRecord l)
 unfolding served bytesIn
 record-reply l h f = list-reply recording 2 l (omega arith) (omega arith) (λ b. refl) ofRecord (λ line. refl) f
@@ -217,27 +220,11 @@ outcome-leads o s ds e = go o refl
         let same : chainDigits n (position n c) (map placeOf c) ≡ ds = cc (rw g at e) in
         rw same at (chain-leads n c (s .chain n c g) (s .fits n c g))
 
--- The kinds whose replies end with the part numbers.
-unfoldable pub endsWithChain : Kind → Bool
-endsWithChain counting = false
-endsWithChain choosing = false
-endsWithChain placing = true
-endsWithChain recording = true
-endsWithChain wording = true
-endsWithChain following = true
-
 -- So do all replies of the kinds 03, 04, 05 and 06.
 pub reply-leads : (line ds : List ℕ) (k : Kind) → kindOf (field line 0 1) ≡ some k → T (endsWithChain k) → replyTo line ≡ servedWith ds → Leads ds
-unfolding endsWithChain served
-reply-leads line ds k first t e = go k t (served-kind line ds k first e)
-  where
-    go : (j : Kind) → T (endsWithChain j) → served j line ≡ servedWith ds → Leads ds
-    go counting t f = absurd t
-    go choosing t f = absurd t
-    go placing t f = outcome-leads (atPosition (field line 1 8) (field line 9 8)) (at-sound (field line 1 8) (field line 9 8) (number-low line 1)) ds f
-    go recording t f = outcome-leads (ofRecord (numbersIn line)) (record-sound (numbersIn line)) ds f
-    go wording t f = outcome-leads (ofWord (lettersIn line)) (word-sound (lettersIn line)) ds f
-    go following t f = outcome-leads (nextOf (ofWord (lettersIn line))) (next-sound (lettersIn line)) ds f
+reply-leads line ds k first t e =
+    let (o, sound, f) = served-chain k line t in
+    outcome-leads o sound ds (sym f ∙ served-kind line ds k first e)
 
 -- A burned record in particular: what its reply tells, asked for at that position, gets the same digits.
 pub record-then-at : (l ds : List ℕ) → replyTo (recordLine l) ≡ servedWith ds → replyTo (atLine (field ds 1 8) (field ds 9 8)) ≡ servedWith ds

@@ -1,6 +1,6 @@
 -- Digits written into bytes that are lent, from a place on.
 --
--- In this order: the definition; the length is kept; one piece more after those that stand; a part that was lent on and comes back;
+-- In this order: the definition; one piece more after those that stand; a part that was lent on and comes back;
 -- zeros up to the size that document 01 asks for.
 use mathlib.Core.Path.{_≡_, refl, _∙_}
 use mathlib.Core.List.{List, [], _++_, append-nil, append-assoc}
@@ -8,7 +8,7 @@ use Prim.Native.Nat.{ℕ, _+_, _-_, _≤_}
 use native.Mathlib.Nat.{add-zero, add-assoc}
 use native.Mathlib.Omega.{arith}
 use borrow.Rule.Slice.PartMut.{midOf, putMid, post-is, mid-len}
-use lib.ListN.{length, take, drop, take-append-drop, length-append, length-take, length-drop, drop-of-length-le}
+use lib.ListN.{length, take, drop, take-append-drop, length-append, length-drop, drop-of-length-le}
 use lib.Seq.{length-take-le, drop-drop, take-at, drop-append-add}
 use Rattle.digits.specs.Digits.{digitsOf, putDigits}
 use Rattle.digits.specs.DigitLaws.{length-digits, put-room}
@@ -18,10 +18,6 @@ use Rattle.lent.specs.Parts.{part-lent}
 -- l with xs in the place of what stood there, from `at` on.
 unfoldable pub putAt : ℕ → List ℕ → List ℕ → List ℕ
 putAt at xs l = take at l ++ (xs ++ drop (at + length xs) l)
-
-pub length-put : (at : ℕ) (xs l : List ℕ) → at + length xs ≤ length l → length (putAt at xs l) ≡ length l
-unfolding putAt
-length-put at xs l h = simp (length-append, length-take, length-drop) (omega arith)
 
 -- ys right after xs.
 pub put-put : (at k : ℕ) (xs ys l : List ℕ) → k ≡ at + length xs → at + length xs ≤ length l → putAt k ys (putAt at xs l) ≡ putAt at (xs ++ ys) l
@@ -34,7 +30,7 @@ put-put at k xs ys l e h =
     let cut : take k (putAt at xs l) ≡ p = rw (← append-assoc (take at l) xs q) (take-at p q k n) in
     let rest : drop (k + length ys) (putAt at xs l) ≡ drop (at + length (xs ++ ys)) l =
     rw (← append-assoc (take at l) xs q, d, drop-drop (length ys) (at + length xs) l, length-append xs ys, add-assoc) in
-    rw (cut, rest, append-assoc, append-assoc)
+    rw (cut, rest) (simp append-assoc)
 
 -- From `start` up to `end` xs stand in l, where l₀ was lent.
 pub record Stands (start : ℕ) (xs l₀ l : List ℕ) (end : ℕ) : Type 0 where

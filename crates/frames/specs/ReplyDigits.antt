@@ -52,11 +52,13 @@ pub length-chain : (n position : ℕ) (numbers : List ℕ) → length (chainDigi
 unfolding chainDigits
 length-chain n position numbers = simp (length-append, length-head, length-values)
 
-pub length-priced : (n position : ℕ) (numbers : List ℕ) (price : ℕ) → length (pricedDigits n position numbers price) ≡ 36 + 4 * length numbers + 8
+pub length-priced : (n position : ℕ) (numbers : List ℕ) (price : ℕ)
+    → length (pricedDigits n position numbers price) ≡ 36 + 4 * length numbers + 8
 unfolding pricedDigits
 length-priced n position numbers price = simp (length-append, length-chain, length-digits)
 
-pub every-values : (p : ℕ → Bool) → ((k n : ℕ) → every p (digitsOf k n) ≡ true) → (width : ℕ) (xs : List ℕ) → every p (valuesDigits width xs) ≡ true
+pub every-values : (p : ℕ → Bool) → ((k n : ℕ) → every p (digitsOf k n) ≡ true) → (width : ℕ) (xs : List ℕ)
+    → every p (valuesDigits width xs) ≡ true
 unfolding valuesDigits every
 every-values p h width [] = refl
 every-values p h width (x ∷ xs) = simp (every-append, h, every-values p h width xs)

@@ -1,14 +1,16 @@
 -- Theory of the reply to a line.
 --
--- In this order: a line's first 515 characters; replies by their kind; the chains of replies are chains of n; every reply is an even number of digits, at
--- least 2 and at most 300, all of them hexadecimal; what a chain's reply is read back as.
--- That replies lead to each other, as demand 2 asks, is in LineTrips.
+-- In this order: a line's first 515 characters (`first-515`); replies by their kind; the chains of replies are chains of n; every reply
+-- is an even number of digits, at least 2 and at most 300, all of them as they are written (`reply-frame`); what a chain's reply is read
+-- back as (`reply-read`).
+-- That replies lead to each other, as demand 2 asks, is in LineTrips; demand 3 is in BestLines.
 use mathlib.Core.Path.{_≡_, refl}
-use mathlib.Core.Bool.{true}
+use mathlib.Core.Bool.{Bool, true, false}
 use mathlib.Core.List.{List, _++_, map}
 use mathlib.Core.Option.{Option, none, some}
-use Prim.Native.Nat.{ℕ, zero, suc, _+_, _%_, _^_, _≤_, _<_}
+use Prim.Native.Nat.{ℕ, zero, suc, _+_, _*_, _%_, _^_, _≤_, _<_}
 use native.Mathlib.Omega.{arith}
+use lib.Dec.{T}
 use lib.ListN.{length, take, length-map}
 use Rattle.chains.specs.Chains.{Part, ChainOf}
 use Rattle.chains.specs.Listing.{count, position}
@@ -123,6 +125,27 @@ prices-cheap line =
       s = omega (arith, field-below line 16 2);
     }
 
+-- The kinds whose replies end with the part numbers: 03 to 06.
+unfoldable pub endsWithChain : Kind → Bool
+endsWithChain counting = false
+endsWithChain choosing = false
+endsWithChain placing = true
+endsWithChain recording = true
+endsWithChain wording = true
+endsWithChain following = true
+
+pub served-chain : (k : Kind) (line : List ℕ) → T (endsWithChain k) → (o : Outcome) × Sound o × (served k line ≡ chainReply o)
+unfolding endsWithChain served
+served-chain counting line t = absurd t
+served-chain choosing line t = absurd t
+served-chain placing line t =
+    let n = field line 1 8 in
+    let i = field line 9 8 in
+    (atPosition n i, at-sound n i (number-low line 1), refl)
+served-chain recording line t = (ofRecord (numbersIn line), record-sound (numbersIn line), refl)
+served-chain wording line t = (ofWord (lettersIn line), word-sound (lettersIn line), refl)
+served-chain following line t = (nextOf (ofWord (lettersIn line)), next-sound (lettersIn line), refl)
+
 -- ---- every reply is a frame
 
 -- Whole bytes, at least one and at most 150, in digits as they are written.
@@ -132,32 +155,32 @@ pub record Frame (ds : List ℕ) : Type 0 where
   pub most : length ds ≤ 300
   pub digits : every isWritten ds ≡ true
 
-written-chain : (n position : ℕ) (numbers : List ℕ) → every isWritten (chainDigits n position numbers) ≡ true
-unfolding chainDigits headDigits
-written-chain n position numbers = simp (every-append, written-digits, every-values isWritten written-digits)
+frame : (k : ℕ) (ds : List ℕ) → length ds ≡ 2 * k → 1 ≤ k → k ≤ 150 → every isWritten ds ≡ true → Frame ds
+frame k ds n h g w = record { even = omega arith; least = omega arith; most = omega arith; digits = w }
+
+refusal-frame : (r : ℕ) → Frame (digitsOf 2 r)
+refusal-frame r = frame 1 (digitsOf 2 r) (length-digits 2 r) (omega arith) (omega arith) (written-digits 2 r)
 
 count-frame : (count : ℕ) → Frame (countDigits count)
 unfolding countDigits
-count-frame count =
-    let n = length-count count in
-    record { even = omega arith; least = omega arith; most = omega arith; digits = simp (every-append, written-digits) }
+count-frame count = frame 9 (countDigits count) (length-count count) (omega arith) (omega arith) (simp (every-append, written-digits))
 
-refusal-frame : (r : ℕ) → Frame (digitsOf 2 r)
-refusal-frame r =
-    let n = length-digits 2 r in
-    record { even = omega arith; least = omega arith; most = omega arith; digits = written-digits 2 r }
+module _ (n position : ℕ) (numbers : List ℕ) (few : length numbers ≤ 64) where
+  written-chain : every isWritten (chainDigits n position numbers) ≡ true
+  unfolding chainDigits headDigits
+  written-chain = simp (every-append, written-digits, every-values isWritten written-digits)
 
-module _ (n position price : ℕ) (numbers : List ℕ) (few : length numbers ≤ 64) where
   chain-frame : Frame (chainDigits n position numbers)
   chain-frame =
       let k = length-chain n position numbers in
-      record { even = omega arith; least = omega arith; most = omega arith; digits = written-chain n position numbers }
+      frame (18 + 2 * length numbers) (chainDigits n position numbers) (omega arith) (omega arith) (omega arith) written-chain
 
-  priced-frame : Frame (pricedDigits n position numbers price)
+  priced-frame : (price : ℕ) → Frame (pricedDigits n position numbers price)
   unfolding pricedDigits
-  priced-frame =
+  priced-frame price =
       let k = length-priced n position numbers price in
-      record { even = omega arith; least = omega arith; most = omega arith; digits = simp (every-append, written-digits, written-chain) }
+      frame (22 + 2 * length numbers) (pricedDigits n position numbers price) (omega arith) (omega arith) (omega arith)
+      (simp (every-append, written-digits, written-chain))
 
 module _ (o : Outcome) (s : Sound o) where
   few : (n : ℕ) (c : List Part) → o ≡ gives n c → length (map placeOf c) ≤ 64
@@ -169,7 +192,7 @@ module _ (o : Outcome) (s : Sound o) where
     where
       go : (x : Outcome) → o ≡ x → Frame (digitsIn (chainReply x))
       go (refused r) e = refusal-frame r
-      go (gives n c) e = chain-frame n (position n c) 0 (map placeOf c) (few n c e)
+      go (gives n c) e = chain-frame n (position n c) (map placeOf c) (few n c e)
 
   outcome-priced : (π : Prices) → Frame (digitsIn (pricedReply π o))
   unfolding pricedReply digitsIn
@@ -177,18 +200,24 @@ module _ (o : Outcome) (s : Sound o) where
     where
       go : (x : Outcome) → o ≡ x → Frame (digitsIn (pricedReply π x))
       go (refused r) e = refusal-frame r
-      go (gives n c) e = priced-frame n (position n c) (price π c) (map placeOf c) (few n c e)
+      go (gives n c) e = priced-frame n (position n c) (map placeOf c) (few n c e) (price π c)
 
 served-frame : (k : Kind) (line : List ℕ) → Frame (digitsIn (served k line))
-unfolding served digitsIn
-served-frame counting line = count-frame (count (field line 1 8))
-served-frame choosing line =
-    let n = field line 1 8 in
-    outcome-priced (bestOutcome n (limitsIn line) (pricesIn line)) (best-sound n (limitsIn line) (pricesIn line) (number-low line 1) (prices-cheap line)) (pricesIn line)
-served-frame placing line = outcome-frame (atPosition (field line 1 8) (field line 9 8)) (at-sound (field line 1 8) (field line 9 8) (number-low line 1))
-served-frame recording line = outcome-frame (ofRecord (numbersIn line)) (record-sound (numbersIn line))
-served-frame wording line = outcome-frame (ofWord (lettersIn line)) (word-sound (lettersIn line))
-served-frame following line = outcome-frame (nextOf (ofWord (lettersIn line))) (next-sound (lettersIn line))
+unfolding served digitsIn endsWithChain
+served-frame k line = go k
+  where
+    by-chain : (j : Kind) → T (endsWithChain j) → Frame (digitsIn (served j line))
+    by-chain j t = let (o, sound, e) = served-chain j line t in rw e (outcome-frame o sound)
+
+    go : (j : Kind) → Frame (digitsIn (served j line))
+    go counting = count-frame (count (field line 1 8))
+    go choosing =
+        outcome-priced (bestOutcome (field line 1 8) (limitsIn line) (pricesIn line))
+        (best-sound (field line 1 8) (limitsIn line) (pricesIn line) (number-low line 1) (prices-cheap line)) (pricesIn line)
+    go placing = by-chain placing tt
+    go recording = by-chain recording tt
+    go wording = by-chain wording tt
+    go following = by-chain following tt
 
 pub reply-frame : (line : List ℕ) → Frame (replyOf line)
 unfolding replyOf replyTo replyByShape digitsIn
@@ -209,6 +238,7 @@ pub numbers-fit : (n : ℕ) (c : List Part) → ChainOf n c → n < 2 ^ 64 → F
 unfolding InTable
 numbers-fit n c h f = λ i l. omega (arith, judged-sum (map placeOf c) n .0 (chain-judged n c h f) .known i l)
 
+-- Its position, and the one after it.
 count-low : (n : ℕ) → n < 2 ^ 64 → count n < 2 ^ 64
 count-low zero f = omega (arith, count-0)
 count-low (suc n) f = omega (arith, count-at-most (suc n) (omega arith))

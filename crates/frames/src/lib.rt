@@ -19,8 +19,10 @@ pub enum Replied {
 // a line that is no frame, with 2, 3 or 4, and then with what the line's service refuses.
 pub fn reply(line: &[u8], scratch: &mut [u64], out: &mut [u8]) -> Replied
     ensures answer { λ r. ⌜ r ≡ answerTo (littleLent (now (scratch .entry)) (now (out .entry))) (now (line .entry)) ⌝ }
-    ensures out { λ _. ⌜ now (out .exit) ≡ outLeft (littleLent (now (scratch .entry)) (now (out .entry))) (now (line .entry)) (now (out .entry)) ⌝ }
-    ensures scratch { λ _. ⌜ now (scratch .exit) ≡ scratchLeft (littleLent (now (scratch .entry)) (now (out .entry))) (now (scratch .entry)) ⌝ }
+    ensures out { λ _. ⌜ now (out .exit)
+        ≡ outLeft (littleLent (now (scratch .entry)) (now (out .entry))) (now (line .entry)) (now (out .entry)) ⌝ }
+    ensures scratch { λ _. ⌜ now (scratch .exit)
+        ≡ scratchLeft (littleLent (now (scratch .entry)) (now (out .entry))) (now (scratch .entry)) ⌝ }
 {
     if scratch.len() < 5248 {
         return Replied::Refused(1);

@@ -7,15 +7,16 @@ use ranking::Placed;
 ghost use mathlib.Core.Path.{_≡_};
 ghost use Rattle.ranking.specs.Services.{lent, tooLittle, placesLeft, scratchLeft};
 ghost use Rattle.best.specs.Chosen.{bestOutcome, chosenOf};
-ghost use Rattle.frames.specs.Calls.{Lent, Handled, FitAs};
+ghost use Rattle.frames.specs.Calls.{EnoughLent, Handled, FitAs};
 ghost use Rattle.frames.specs.Replies.{refusedAs, limitsIn, pricesIn, served, replyTo};
 ghost use Rattle.lines.specs.Kinds.{counting, choosing, placing, recording, wording, following};
 ghost use Rattle.lines.specs.LineLaws.{Fit};
 
 // A line that is refused: the scratch is zeroed as on success.
 pub fn serve_refusal(number: u8, scratch: &mut [u64], out: &mut [u8]) -> Replied
-    requires { ⌜ Lent (now scratch) (now out) ⌝ }
-    ensures { λ r. ⌜ Handled (refusedAs number) r (now (scratch .entry)) (now (scratch .exit)) (now (out .entry)) (now (out .exit)) ⌝ }
+    requires { ⌜ EnoughLent (now scratch) (now out) ⌝ }
+    ensures { λ r. ⌜ Handled (refusedAs number) r
+        (now (scratch .entry)) (now (scratch .exit)) (now (out .entry)) (now (out .exit)) ⌝ }
 {
     lent::clear_u64(&mut scratch[0..5248]);
     tell::tell_refusal(out, number)
@@ -23,8 +24,9 @@ pub fn serve_refusal(number: u8, scratch: &mut [u64], out: &mut [u8]) -> Replied
 
 // 01: the count.
 pub fn serve_count(line: &[u8], scratch: &mut [u64], out: &mut [u8]) -> Replied
-    requires { ⌜ Lent (now scratch) (now out) ⌝ }
-    ensures { λ r. ⌜ Handled (served counting (now (line .entry))) r (now (scratch .entry)) (now (scratch .exit)) (now (out .entry)) (now (out .exit)) ⌝ }
+    requires { ⌜ EnoughLent (now scratch) (now out) ⌝ }
+    ensures { λ r. ⌜ Handled (served counting (now (line .entry))) r
+        (now (scratch .entry)) (now (scratch .exit)) (now (out .entry)) (now (out .exit)) ⌝ }
 {
     match counting::table_count(lines::field_of(line, 1, 8), scratch) {
         Counted::Count(count) => tell::tell_count(out, count),
@@ -54,8 +56,9 @@ fn best_in(n: u64, line: &[u8], scratch: &mut [u64], places: &mut [u16]) -> Chos
 
 // 02: the best chain.
 pub fn serve_best(line: &[u8], scratch: &mut [u64], out: &mut [u8]) -> Replied
-    requires { ⌜ Lent (now scratch) (now out) ⌝ }
-    ensures { λ r. ⌜ Handled (served choosing (now (line .entry))) r (now (scratch .entry)) (now (scratch .exit)) (now (out .entry)) (now (out .exit)) ⌝ }
+    requires { ⌜ EnoughLent (now scratch) (now out) ⌝ }
+    ensures { λ r. ⌜ Handled (served choosing (now (line .entry))) r
+        (now (scratch .entry)) (now (scratch .exit)) (now (out .entry)) (now (out .exit)) ⌝ }
 {
     let n = lines::field_of(line, 1, 8);
     let mut places = [0u16; 64];
@@ -70,8 +73,9 @@ pub fn serve_best(line: &[u8], scratch: &mut [u64], out: &mut [u8]) -> Replied
 
 // 03: the chain at a position.
 pub fn serve_at(line: &[u8], scratch: &mut [u64], out: &mut [u8]) -> Replied
-    requires { ⌜ Lent (now scratch) (now out) ⌝ }
-    ensures { λ r. ⌜ Handled (served placing (now (line .entry))) r (now (scratch .entry)) (now (scratch .exit)) (now (out .entry)) (now (out .exit)) ⌝ }
+    requires { ⌜ EnoughLent (now scratch) (now out) ⌝ }
+    ensures { λ r. ⌜ Handled (served placing (now (line .entry))) r
+        (now (scratch .entry)) (now (scratch .exit)) (now (out .entry)) (now (out .exit)) ⌝ }
 {
     let mut places = [0u16; 64];
     let found = ranking::chain_at(
@@ -85,8 +89,9 @@ pub fn serve_at(line: &[u8], scratch: &mut [u64], out: &mut [u8]) -> Replied
 
 // 04: a burned record. The reply repeats its part numbers.
 pub fn serve_record(line: &[u8], scratch: &mut [u64], out: &mut [u8]) -> Replied
-    requires { ⌜ Lent (now scratch) (now out) × Fit (now line) recording ⌝ }
-    ensures { λ r. ⌜ Handled (served recording (now (line .entry))) r (now (scratch .entry)) (now (scratch .exit)) (now (out .entry)) (now (out .exit)) ⌝ }
+    requires { ⌜ EnoughLent (now scratch) (now out) × Fit (now line) recording ⌝ }
+    ensures { λ r. ⌜ Handled (served recording (now (line .entry))) r
+        (now (scratch .entry)) (now (scratch .exit)) (now (out .entry)) (now (out .exit)) ⌝ }
 {
     let mut numbers = [0u16; 255];
     let k = lines::numbers_of(line, &mut numbers);
@@ -98,8 +103,9 @@ pub fn serve_record(line: &[u8], scratch: &mut [u64], out: &mut [u8]) -> Replied
 
 // 05: a word.
 pub fn serve_word(line: &[u8], scratch: &mut [u64], out: &mut [u8]) -> Replied
-    requires { ⌜ Lent (now scratch) (now out) × Fit (now line) wording ⌝ }
-    ensures { λ r. ⌜ Handled (served wording (now (line .entry))) r (now (scratch .entry)) (now (scratch .exit)) (now (out .entry)) (now (out .exit)) ⌝ }
+    requires { ⌜ EnoughLent (now scratch) (now out) × Fit (now line) wording ⌝ }
+    ensures { λ r. ⌜ Handled (served wording (now (line .entry))) r
+        (now (scratch .entry)) (now (scratch .exit)) (now (out .entry)) (now (out .exit)) ⌝ }
 {
     let mut letters = [0u8; 255];
     let k = lines::letters_of(line, &mut letters);
@@ -110,8 +116,9 @@ pub fn serve_word(line: &[u8], scratch: &mut [u64], out: &mut [u8]) -> Replied
 
 // 06: the chain after a word's.
 pub fn serve_next(line: &[u8], scratch: &mut [u64], out: &mut [u8]) -> Replied
-    requires { ⌜ Lent (now scratch) (now out) × Fit (now line) following ⌝ }
-    ensures { λ r. ⌜ Handled (served following (now (line .entry))) r (now (scratch .entry)) (now (scratch .exit)) (now (out .entry)) (now (out .exit)) ⌝ }
+    requires { ⌜ EnoughLent (now scratch) (now out) × Fit (now line) following ⌝ }
+    ensures { λ r. ⌜ Handled (served following (now (line .entry))) r
+        (now (scratch .entry)) (now (scratch .exit)) (now (out .entry)) (now (out .exit)) ⌝ }
 {
     let mut letters = [0u8; 255];
     let k = lines::letters_of(line, &mut letters);
@@ -122,8 +129,9 @@ pub fn serve_next(line: &[u8], scratch: &mut [u64], out: &mut [u8]) -> Replied
 
 // A fit line, by the byte of its kind.
 pub fn serve_kind(kind: u8, line: &[u8], scratch: &mut [u64], out: &mut [u8]) -> Replied
-    requires { ⌜ Lent (now scratch) (now out) × FitAs kind (now line) ⌝ }
-    ensures { λ r. ⌜ Handled (replyTo (now (line .entry))) r (now (scratch .entry)) (now (scratch .exit)) (now (out .entry)) (now (out .exit)) ⌝ }
+    requires { ⌜ EnoughLent (now scratch) (now out) × FitAs kind (now line) ⌝ }
+    ensures { λ r. ⌜ Handled (replyTo (now (line .entry))) r
+        (now (scratch .entry)) (now (scratch .exit)) (now (out .entry)) (now (out .exit)) ⌝ }
 {
     match kind {
         1 => serve_count(line, scratch, out),

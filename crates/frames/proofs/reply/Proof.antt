@@ -12,7 +12,7 @@ use Rattle.lines.specs.Lines.{shapeOf, shapeCode}
 use Rattle.lines.specs.LineLaws.{refused-shape}
 use Rattle.lines.specs.declared.Shape.the-variants as shape
 use Rattle.frames.specs.Replies.{refusedAs, replyByShape, replyTo, replyOf, littleLent, repliedOf, answerTo, outLeft}
-use Rattle.frames.specs.Calls.{Lent, Handled}
+use Rattle.frames.specs.Calls.{EnoughLent, Handled}
 use Rattle.frames.specs.declared.Replied.{Replied}
 use Rattle.frames.specs.declared.Replied.the-variants as replied
 use Rattle.frames.proofs.reply.Statement.{statement}
@@ -32,11 +32,11 @@ module _ (line s out : List ℕ) where
   unfolding answerTo repliedOf outLeft scratchLeft pickList
   refused-1 e = rw e (refl, (refl, refl))
 
-  enough : Lent s out → littleLent s out ≡ false
+  enough : EnoughLent s out → littleLent s out ≡ false
   unfolding littleLent
   enough l = rw (le-ltb (length s) scratchSize (l .numbers), le-ltb (length out) 514 (l .room))
 
-  answered : (r : Replied) (s′ out′ : List ℕ) → Lent s out → Handled (replyTo line) r s s′ out out′
+  answered : (r : Replied) (s′ out′ : List ℕ) → EnoughLent s out → Handled (replyTo line) r s s′ out out′
       → (r ≡ answerTo (littleLent s out) line) × ((out′ ≡ outLeft (littleLent s out) line out) × (s′ ≡ scratchLeft (littleLent s out) s))
   unfolding answerTo outLeft replyOf scratchLeft pickList
   answered r s′ out′ l h = rw (enough l) (h .told .answer, (h .told .digits, h .zeroed))
