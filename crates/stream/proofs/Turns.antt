@@ -50,9 +50,6 @@ pub record Turn (line block keptEntry scratchEntry outEntry kept scratch out : L
   pub keeps : Keeps (unfinished line (take at block)) keptEntry kept left
   pub rest : Later 5248 scratchEntry scratch
 
-pub wrote-fits : (ls : List (List ℕ)) (entry out : List ℕ) (n : ℕ) → Wrote ls entry out n → n ≤ length out
-wrote-fits ls entry out n w = omega (arith, ap length (w .replies), length-append (repliesTo replyOf ls) (behind ls entry))
-
 -- ---- the start
 
 pub none-written : (out : List ℕ) → Wrote [] out out 0

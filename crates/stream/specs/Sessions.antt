@@ -6,23 +6,43 @@ use mathlib.Core.Path.{_≡_, refl, sym, ap, _∙_}
 use mathlib.Core.List.{List, [], _∷_, _++_, flatten}
 use Prim.Native.Nat.{ℕ, zero, suc, _+_, _≤_, _<_}
 use native.Mathlib.Omega.{arith}
-use lib.ListN.{length, take}
+use lib.ListN.{length, take, length-append, length-take}
 use lib.Seq.{take-at}
 use Rattle.lent.specs.Lent.{filled-first}
 use Rattle.lines.specs.Stream.{finished, unfinished, lastLine, linesOf, repliesTo, answersTo}
 use Rattle.lines.specs.StreamLaws.{answers-lines}
 use Rattle.frames.specs.Replies.{replyOf}
 use Rattle.frames.specs.ReplyLaws.{first-515}
-use Rattle.stream.specs.Answers.{behind, Wrote, Goes, Answered}
+use Rattle.stream.specs.Answers.{Enough, behind, Wrote, Goes, Answered, BlockAnswer}
 use Rattle.stream.specs.declared.Fed.{Fed}
 
 -- ---- a call moves on
 
--- It uses some of a block that is not empty, so that a caller's loop comes to the block's end.
-pub moves-on : (line block out exit : List ℕ) (used written : ℕ) → Goes line block out exit used written → 515 ≤ length out → 0 < length block → 0 < used
+pub wrote-fits : (lines : List (List ℕ)) (out exit : List ℕ) (n : ℕ) → Wrote lines out exit n → n ≤ length exit
+wrote-fits lines out exit n w = omega (arith, ap length (w .replies), length-append (repliesTo replyOf lines) (behind lines out))
+
+some-used : (line block out exit : List ℕ) (used written : ℕ) → Goes line block out exit used written → 515 ≤ length out → 0 < length block → 0 < used
 unfolding finished repliesTo
-moves-on line block out exit zero written g room some-there = absurd (omega (arith, g .stops some-there, g .wrote .count))
-moves-on line block out exit (suc used) written g room some-there = omega arith
+some-used line block out exit zero written g room some-there = absurd (omega (arith, g .stops some-there, g .wrote .count))
+some-used line block out exit (suc used) written g room some-there = omega arith
+
+-- What a caller's loop rests on: a call uses some of a block that is not empty, and the numbers that it tells are within bounds.
+pub record Moves (block outExit : List ℕ) (r : Fed) : Type 0 where
+  pub within : r .used ≤ length block
+  pub some : 0 < length block → 0 < r .used
+  pub most-kept : r .kept ≤ 515
+  pub fits : r .written ≤ length outExit
+
+pub moves-on : {block : List ℕ} {k : ℕ} {kept keptExit scratch scratchExit out outExit : List ℕ} {r : Fed}
+    → BlockAnswer block k kept keptExit scratch scratchExit out outExit r → Enough (length kept) k (length scratch) (length out) → Moves block outExit r
+moves-on {block} {k} {kept} {keptExit} {scratch} {scratchExit} {out} {outExit} {r} b e =
+    let a = b .answered e .0 in
+    record {
+      within = a .goes .within;
+      some = some-used (take k kept) block out outExit (r .used) (r .written) (a .goes) (e .out-lent);
+      most-kept = omega (arith, a .count, length-take 515 (unfinished (take k kept) (take (r .used) block)));
+      fits = wrote-fits _ out outExit (r .written) (a .goes .wrote);
+    }
 
 -- ---- what it writes and keeps
 

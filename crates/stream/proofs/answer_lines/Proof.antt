@@ -2,7 +2,8 @@
 use Prim.Native.Nat.{_-_}
 use native.Mathlib.Omega.{arith}
 use lib.ListN.{length, take}
-use Rattle.stream.proofs.Turns.{Turn, none-answered, wrote-fits, one-more, no-room, all-used, rest-kept}
+use Rattle.stream.specs.Sessions.{wrote-fits}
+use Rattle.stream.proofs.Turns.{Turn, none-answered, one-more, no-room, all-used, rest-kept}
 use borrow.Author.Needs.{needs}
 use Rattle.stream.proofs.answer_lines.Statement.{statement}
 use Rattle.stream.proofs.answer_lines.Tie as tie

@@ -1,0 +1,4 @@
+// The program `intake`: frames from standard input, a reply a line to standard output.
+fn main() {
+    console::answer_input();
+}
