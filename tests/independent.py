@@ -750,7 +750,7 @@ def test_parts():
 @what
 def test_files_stdin():
     """Every kind for all numbers to 200; refusals; random and damaged lines; empty lines; a last line without its byte 10."""
-    lines = list(small_file(200)) + list(refused_file()) + [b"", b""] + list(some_lines(1, 5000)) + [b"", LISTING.split(b"\n")[0]]
+    lines = list(small_file(200)) + list(refused_file()) + [b"", b""] + list(some_lines(1, 20000)) + [b"", LISTING.split(b"\n")[0]]
     return b"\n".join(lines)
 
 
