@@ -338,6 +338,12 @@ def refused_file():
     for kind in range(1, 7):
         for extra in range(0, 20):
             yield hexed((kind, 1)) + b"00" * extra
+    # a character that is none against the length of the kind, and against each kind's own refusals
+    for text in (b"01" + b"0" * 10 + b"g0", b"02" + b"0" * 15 + b"a", b"03" + b"0" * 31 + b"a", b"0402FFFFFFF\x00", b"050104" + b"\r0"):
+        yield text
+    # 8 against 9 and 10, 9 against 10
+    for numbers in ([1344, 1344], [1343, 1343], [1343, 1344], [0, 1343, 1344], [1343, 1343, 2000], [0, 1343, 1343]):
+        yield hexed((4, 1), (len(numbers), 1), *((i, 2) for i in numbers))
     for k in (0, 1, 2, 63, 64, 65, 66, 127):
         for numbers in ([0] * k, [1344] * k, list(range(k, 0, -1)), [65535] + [0] * (k - 1) if k else []):
             yield hexed((4, 1), (k, 1), *((i, 2) for i in numbers))
