@@ -754,15 +754,16 @@ def test_parts():
 
 
 @what
-def test_files_stdin():
+def lines():
     """Every kind for all numbers to 200; refusals; random and damaged lines; empty lines; a last line without its byte 10."""
-    lines = list(small_file(200)) + list(refused_file()) + [b"", b""] + list(some_lines(1, 20000)) + [b"", LISTING.split(b"\n")[0]]
-    return b"\n".join(lines)
+    some = [b"", b"", *some_lines(1, 20000), b"", LISTING.split(b"\n")[0]]
+    return b"\n".join([*small_file(200), *refused_file(), *some])
 
 
 @what
-def test_files():
-    return answer(test_files_stdin())
+def replies():
+    """The replies to those lines."""
+    return answer(lines())
 
 
 def main():

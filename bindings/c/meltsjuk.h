@@ -1,0 +1,76 @@
+/* Double-base chains from C and C++.
+ *
+ * A chain writes a number as a sum of parts 2^a * 3^b, each a proper multiple of the next. The functions count the chains of a
+ * number, find its best chain, and reply to a line of hexadecimal. Each is proved to answer and to leave behind exactly what its
+ * contract in crates/meltsjuk/src/lib.rt says, for every argument. `rt staticlib meltsjuk` writes the archive
+ * target/staticlib/libmeltsjuk.a, for x86-64 Linux:
+ *
+ *     cc -I bindings/c program.c target/staticlib/libmeltsjuk.a
+ *
+ * Memory is lent by the caller, for the time of the call: a pointer, and how many numbers or bytes stand there. They may hold
+ * anything before the call, but must be initialised. The proof rests on this, which C does not check:
+ *
+ *   - no pointer is null, also where the length is 0, and each is aligned as its type asks;
+ *   - so many numbers or bytes as the length says can be read, and written where the pointer is not to const;
+ *   - no two pieces of memory that are lent to one call overlap, also not the single numbers that are written through a pointer;
+ *   - nothing else reads or writes them before the call returns.
+ *
+ * Nothing is allocated, and nothing is kept between calls, so threads may call at the same time with memory of their own.
+ *
+ * Too little lent is refused first of all, and then nothing is written. On every other return the first MELTSJUK_SCRATCH numbers of
+ * the scratch are zero and those after them are as they were. More may be lent than is asked for.
+ */
+#ifndef MELTSJUK_H
+#define MELTSJUK_H
+
+#include <stddef.h>
+#include <stdint.h>
+
+#define MELTSJUK_SCRATCH 5248 /* the least numbers of a scratch */
+#define MELTSJUK_PLACES 64    /* the least places for part numbers; a chain has at most so many parts */
+#define MELTSJUK_REPLY 514    /* the least bytes for a reply */
+
+/* What meltsjuk_count and meltsjuk_best answer. */
+#define MELTSJUK_SERVED 0      /* the answer stands where the caller asked for it */
+#define MELTSJUK_LITTLE_LENT 1 /* too little is lent, and nothing was written */
+#define MELTSJUK_NONE_FITS 5   /* no chain is within the limits */
+
+#ifdef __cplusplus
+extern "C" {
+#endif
+
+/* The reply to one line of hexadecimal, given without its byte 10: the digits that the program `intake` writes for it.
+ *
+ * Lent: the line; the scratch, MELTSJUK_SCRATCH numbers or more; `out`, MELTSJUK_REPLY bytes or more.
+ * Answers how many digits the reply has, at least 2 and at most 300. They stand in `out`, then zeros up to MELTSJUK_REPLY, so that
+ * the digits are a C string, and later bytes are as they were. A refused line's reply is the two digits of its number, 02 to 0B.
+ * Answers 0 where the scratch or `out` is too short; then nothing was written. */
+uint64_t meltsjuk_reply(const uint8_t *line, size_t line_length, uint64_t *scratch, size_t scratch_length, uint8_t *out,
+                        size_t out_length);
+
+/* How many chains n has.
+ *
+ * Lent: the scratch, MELTSJUK_SCRATCH numbers or more; one number for the count.
+ * Answers MELTSJUK_SERVED with the count in *count, or MELTSJUK_LITTLE_LENT, and *count is as it was. */
+uint8_t meltsjuk_count(uint64_t n, uint64_t *scratch, size_t scratch_length, uint64_t *count);
+
+/* The best chain of n: the fewest parts, then the lowest price, then the earliest position in the list of n's chains, among the
+ * chains with at most `parts_limit` parts and a largest part 2^a * 3^b with a up to `a_limit` and b up to `b_limit`. Limits above
+ * 64, 63 and 40 exclude nothing. The price of a chain of k parts is d * a + t * b + s * (k - 1). The number 0 has the empty chain,
+ * of no parts and price 0, within any limits.
+ *
+ * Lent: the scratch, MELTSJUK_SCRATCH numbers or more; MELTSJUK_PLACES places or more; one number each for the position, the number
+ * of parts and the price.
+ * Answers MELTSJUK_SERVED with the three in *position, *k and *price. The first *k places hold the chain's part numbers, largest
+ * part first: the parts below 2^64 are numbered in ascending order from 0 (1, 2, 3, 4, 6, 8, ...). Then come zeros up to
+ * MELTSJUK_PLACES, and later places are as they were.
+ * Answers MELTSJUK_LITTLE_LENT or MELTSJUK_NONE_FITS otherwise, and the places and the three numbers are as they were. */
+uint8_t meltsjuk_best(uint64_t n, uint8_t parts_limit, uint8_t a_limit, uint8_t b_limit, uint16_t d, uint16_t t, uint16_t s,
+                      uint64_t *scratch, size_t scratch_length, uint16_t *places, size_t places_length, uint64_t *position,
+                      uint64_t *k, uint64_t *price);
+
+#ifdef __cplusplus
+}
+#endif
+
+#endif

@@ -1,0 +1,187 @@
+//! Double-base chains from Rust.
+//!
+//! A chain writes a number as a sum of parts 2^a × 3^b, each a proper multiple of the next: 19 = 18 + 1. A [`Terminal`] counts the
+//! chains of a number, finds its best chain, and replies to lines of hexadecimal. The library behind it is proved to meet its
+//! contracts in crates/meltsjuk/src/lib.rt for every argument; this package lends it the memory that it asks for. For x86-64 Linux.
+//!
+//! ```
+//! let mut terminal = meltsjuk::Terminal::new();
+//! assert_eq!(terminal.count(19), 4);
+//! assert_eq!(terminal.reply(b"010000000000000013"), "000000000000000004");
+//! ```
+#![warn(missing_docs)]
+
+const SCRATCH: usize = 5248;
+const PLACES: usize = 64;
+const REPLY: usize = 514;
+
+// What the archive defines: bindings/c/meltsjuk.h says what each is lent, leaves and answers.
+mod archive {
+    extern "C" {
+        pub fn meltsjuk_reply(
+            line: *const u8,
+            line_length: usize,
+            scratch: *mut u64,
+            scratch_length: usize,
+            out: *mut u8,
+            out_length: usize,
+        ) -> u64;
+
+        pub fn meltsjuk_count(n: u64, scratch: *mut u64, scratch_length: usize, count: *mut u64) -> u8;
+
+        pub fn meltsjuk_best(
+            n: u64,
+            parts_limit: u8,
+            a_limit: u8,
+            b_limit: u8,
+            d: u16,
+            t: u16,
+            s: u16,
+            scratch: *mut u64,
+            scratch_length: usize,
+            places: *mut u16,
+            places_length: usize,
+            position: *mut u64,
+            k: *mut u64,
+            price: *mut u64,
+        ) -> u8;
+    }
+}
+
+/// What a best chain must stay within. Limits above 64, 63 and 40 exclude nothing, and the default excludes nothing.
+#[derive(Clone, Copy, Debug, PartialEq, Eq)]
+pub struct Limits {
+    /// How many parts it may have.
+    pub parts: u8,
+    /// How many doublings: the a of its largest part 2^a × 3^b.
+    pub doublings: u8,
+    /// How many triplings: the b of its largest part.
+    pub triplings: u8,
+}
+
+impl Default for Limits {
+    fn default() -> Self {
+        Limits { parts: 64, doublings: 63, triplings: 40 }
+    }
+}
+
+/// What a chain costs: `doubling` × a + `tripling` × b + `addition` × (k − 1), for k parts of which the largest is 2^a × 3^b.
+#[derive(Clone, Copy, Debug, PartialEq, Eq)]
+pub struct Prices {
+    /// The price of a doubling.
+    pub doubling: u16,
+    /// The price of a tripling.
+    pub tripling: u16,
+    /// The price of an addition.
+    pub addition: u16,
+}
+
+/// The best chain of a number.
+#[derive(Clone, Debug, PartialEq, Eq)]
+pub struct Best {
+    /// Its part numbers, largest part first: places in the table of all parts below 2^64, ascending from number 0.
+    pub parts: Vec<u16>,
+    /// Its position in the list of all chains of the number.
+    pub position: u64,
+    /// Its price.
+    pub price: u64,
+}
+
+/// The services, with the memory that is lent to them.
+#[derive(Clone, Debug)]
+pub struct Terminal {
+    scratch: Vec<u64>,
+    places: [u16; PLACES],
+    reply: [u8; REPLY],
+}
+
+impl Default for Terminal {
+    fn default() -> Self {
+        Terminal::new()
+    }
+}
+
+impl Terminal {
+    /// A terminal, with some 42 kB of memory.
+    pub fn new() -> Self {
+        Terminal { scratch: vec![0; SCRATCH], places: [0; PLACES], reply: [0; REPLY] }
+    }
+
+    /// The reply to one line, given without its byte 10: digits. A line that cannot be served gets the two digits of its refusal.
+    ///
+    /// ```
+    /// let mut terminal = meltsjuk::Terminal::new();
+    /// assert_eq!(terminal.reply(b"040200090000"), "00000000000000001300000000000000030200090000");
+    /// assert_eq!(terminal.reply(b"7F"), "04");
+    /// ```
+    pub fn reply(&mut self, line: &[u8]) -> &str {
+        // Sound: each piece of memory is of the length told, and none overlaps another, since `self` is borrowed as `&mut`.
+        let digits = unsafe {
+            archive::meltsjuk_reply(
+                line.as_ptr(),
+                line.len(),
+                self.scratch.as_mut_ptr(),
+                self.scratch.len(),
+                self.reply.as_mut_ptr(),
+                self.reply.len(),
+            )
+        };
+        std::str::from_utf8(&self.reply[..digits as usize]).expect("a reply is digits")
+    }
+
+    /// How many chains n has.
+    ///
+    /// ```
+    /// let mut terminal = meltsjuk::Terminal::new();
+    /// assert_eq!(terminal.count(27), 7);
+    /// assert_eq!(terminal.count(0), 1);
+    /// ```
+    pub fn count(&mut self, n: u64) -> u64 {
+        let mut count = 0;
+        // Sound: the scratch is of the length told, and `count` is a local.
+        let status = unsafe { archive::meltsjuk_count(n, self.scratch.as_mut_ptr(), self.scratch.len(), &mut count) };
+        assert_eq!(status, 0, "a scratch of {SCRATCH} numbers is enough");
+        count
+    }
+
+    /// The best chain of n within the limits: the fewest parts, then the lowest price, then the earliest position. None where no
+    /// chain is within the limits. The number 0 has the empty chain, within any.
+    ///
+    /// ```
+    /// use meltsjuk::{Limits, Prices, Terminal};
+    ///
+    /// let prices = Prices { doubling: 4, tripling: 7, addition: 9 };
+    /// let mut terminal = Terminal::new();
+    /// let best = terminal.best(19, Limits::default(), prices).unwrap();
+    /// assert_eq!(best.parts, [9, 0]); // 18 + 1
+    /// assert_eq!((best.position, best.price), (3, 27));
+    /// assert_eq!(terminal.best(5, Limits { parts: 1, ..Limits::default() }, prices), None);
+    /// ```
+    pub fn best(&mut self, n: u64, limits: Limits, prices: Prices) -> Option<Best> {
+        let (mut position, mut k, mut price) = (0, 0, 0);
+        // Sound: the scratch and the places are of the lengths told, and the three numbers are locals.
+        let status = unsafe {
+            archive::meltsjuk_best(
+                n,
+                limits.parts,
+                limits.doublings,
+                limits.triplings,
+                prices.doubling,
+                prices.tripling,
+                prices.addition,
+                self.scratch.as_mut_ptr(),
+                self.scratch.len(),
+                self.places.as_mut_ptr(),
+                self.places.len(),
+                &mut position,
+                &mut k,
+                &mut price,
+            )
+        };
+        match status {
+            0 => Some(Best { parts: self.places[..k as usize].to_vec(), position, price }),
+            5 => None,
+            _ => panic!("a scratch of {SCRATCH} numbers and {PLACES} places are enough"),
+        }
+    }
+}

@@ -1,0 +1,57 @@
+-- What the functions for C and Rust answer: a service's answer, case by case, as a number and as numbers put where the caller asks.
+-- A refusal leaves those as they were. Document 01, 'What a refused line or call gets', has the refusals' numbers; 0 says that the
+-- call was served.
+--
+-- In this order: the reply to a line, the count, the best chain. Definitions only.
+use mathlib.Core.Bool.{Bool, true, false}
+use mathlib.Core.List.{List}
+use Prim.Native.Nat.{ℕ}
+use lib.ListN.{length}
+use Rattle.chains.specs.Listing.{position}
+use Rattle.chains.specs.Best.{Prices, Limits, price}
+use Rattle.ranking.specs.Services.{Outcome, refused, gives, lent}
+use Rattle.counting.specs.declared.Counted.{Counted}
+use Rattle.counting.specs.declared.Counted.the-variants.{Count, Refused}
+use Rattle.best.specs.Chosen.{bestOutcome}
+use Rattle.frames.specs.Replies.{replyOf}
+
+-- ---- the reply to a line
+
+-- How many digits of the reply to a line are left for the caller: none where too little is lent.
+unfoldable pub digitsLeft : Bool → List ℕ → ℕ
+digitsLeft true line = 0
+digitsLeft false line = length (replyOf line)
+
+-- ---- the count
+
+unfoldable pub countStatus : Counted → ℕ
+countStatus (Count m) = 0
+countStatus (Refused r) = r
+
+-- The count, or x where it is refused.
+unfoldable pub countOr : Counted → ℕ → ℕ
+countOr (Count m) x = m
+countOr (Refused r) x = x
+
+-- ---- the best chain
+
+-- What is asked for: the best chain of n within the limits, and refusal 1 first, where too little is lent.
+abbrev pub bestAsked : List ℕ → List ℕ → ℕ → Limits → Prices → Outcome
+bestAsked scratch places n lim π = lent scratch places (bestOutcome n lim π)
+
+unfoldable pub bestStatus : Outcome → ℕ
+bestStatus (refused r) = r
+bestStatus (gives n c) = 0
+
+-- The chain's position in the list of n, its number of parts and its price, or x where it is refused.
+unfoldable pub positionOr : Outcome → ℕ → ℕ
+positionOr (refused r) x = x
+positionOr (gives n c) x = position n c
+
+unfoldable pub partsOr : Outcome → ℕ → ℕ
+partsOr (refused r) x = x
+partsOr (gives n c) x = length c
+
+unfoldable pub priceOr : Prices → Outcome → ℕ → ℕ
+priceOr π (refused r) x = x
+priceOr π (gives n c) x = price π c

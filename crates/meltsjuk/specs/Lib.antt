@@ -1,0 +1,2 @@
+-- The services for C and Rust: the number that each function answers, and what it puts where the caller asks.
+pub mod Answers

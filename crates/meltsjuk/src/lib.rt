@@ -1,0 +1,101 @@
+// The services for C and Rust: `rt staticlib meltsjuk` writes the archive; the header and the Rust package are in bindings/. Each
+// function calls one service and turns its answer into a number, and numbers put where the caller asks. To C a slice is a pointer
+// and a length.
+use best::Chosen;
+use counting::Counted;
+use frames::Replied;
+ghost use mathlib.Core.Path.{_≡_};
+ghost use lib.ListN.{length};
+ghost use Rattle.ranking.specs.Services.{tooLittle, placesLeft, scratchLeft};
+ghost use Rattle.counting.specs.TableCount.{countedOf, scratchAfter};
+ghost use Rattle.best.specs.Chosen.{limitsOf, pricesOf};
+ghost use Rattle.frames.specs.Replies.{littleLent, outLeft};
+ghost use Rattle.meltsjuk.specs.Answers.{digitsLeft, countStatus, countOr};
+ghost use Rattle.meltsjuk.specs.Answers.{bestAsked, bestStatus, positionOr, partsOr, priceOr};
+
+// Replying to one line, without its byte 10, as `frames::reply` does. Answers how many digits of the reply stand in `out`, two
+// where the line is refused; 0 where too little is lent, and nothing is touched.
+#[no_mangle]
+pub extern "C" fn meltsjuk_reply(line: &[u8], scratch: &mut [u64], out: &mut [u8]) -> u64
+    ensures answer { λ r. ⌜ r ≡ digitsLeft (littleLent (now (scratch .entry)) (now (out .entry))) (now (line .entry)) ⌝ }
+    ensures out { λ _. ⌜ now (out .exit)
+        ≡ outLeft (littleLent (now (scratch .entry)) (now (out .entry))) (now (line .entry)) (now (out .entry)) ⌝ }
+    ensures scratch { λ _. ⌜ now (scratch .exit)
+        ≡ scratchLeft (littleLent (now (scratch .entry)) (now (out .entry))) (now (scratch .entry)) ⌝ }
+{
+    match frames::reply(line, scratch, out) {
+        Replied::Digits(digits) => digits,
+        Replied::Refused(number) => if number == 1 { 0 } else { 2 },
+    }
+}
+
+// The count of n, as `counting::table_count` has it. Answers 0 with the count put in `count`, or 1, and `count` is as it was.
+#[no_mangle]
+pub extern "C" fn meltsjuk_count(n: u64, scratch: &mut [u64], count: &mut u64) -> u8
+    ensures answer { λ r. ⌜ r ≡ countStatus (countedOf n (length (now (scratch .entry)))) ⌝ }
+    ensures count { λ _. ⌜ now (count .exit) ≡ countOr (countedOf n (length (now (scratch .entry)))) (now (count .entry)) ⌝ }
+    ensures scratch { λ _. ⌜ now (scratch .exit) ≡ scratchAfter (now (scratch .entry)) ⌝ }
+{
+    match counting::table_count(n, scratch) {
+        Counted::Count(counted) => {
+            *count = counted;
+            0
+        }
+        Counted::Refused(number) => number,
+    }
+}
+
+// The best chain of n within the limits and by the prices, as `best::best_chain` finds it, its part numbers in the places. Answers
+// 0 with the position, the number of parts and the price put in `position`, `k` and `price`, or 1 or 5, and the three are as they
+// were.
+#[no_mangle]
+pub extern "C" fn meltsjuk_best(
+    n: u64,
+    parts_limit: u8,
+    a_limit: u8,
+    b_limit: u8,
+    d: u16,
+    t: u16,
+    s: u16,
+    scratch: &mut [u64],
+    places: &mut [u16],
+    position: &mut u64,
+    k: &mut u64,
+    price: &mut u64,
+) -> u8
+    ensures answer { λ r. ⌜ r
+        ≡ bestStatus
+        (bestAsked (now (scratch .entry)) (now (places .entry)) n (limitsOf «parts_limit» «a_limit» «b_limit») (pricesOf d t s)) ⌝ }
+    ensures position { λ _. ⌜ now (position .exit)
+        ≡ positionOr
+        (bestAsked (now (scratch .entry)) (now (places .entry)) n (limitsOf «parts_limit» «a_limit» «b_limit») (pricesOf d t s))
+        (now (position .entry)) ⌝ }
+    ensures k { λ _. ⌜ now (k .exit)
+        ≡ partsOr
+        (bestAsked (now (scratch .entry)) (now (places .entry)) n (limitsOf «parts_limit» «a_limit» «b_limit») (pricesOf d t s))
+        (now (k .entry)) ⌝ }
+    ensures price { λ _. ⌜ now (price .exit)
+        ≡ priceOr (pricesOf d t s)
+        (bestAsked (now (scratch .entry)) (now (places .entry)) n (limitsOf «parts_limit» «a_limit» «b_limit») (pricesOf d t s))
+        (now (price .entry)) ⌝ }
+    ensures places { λ _. ⌜ now (places .exit)
+        ≡ placesLeft
+        (bestAsked (now (scratch .entry)) (now (places .entry)) n (limitsOf «parts_limit» «a_limit» «b_limit») (pricesOf d t s))
+        (now (places .entry)) ⌝ }
+    ensures scratch { λ _. ⌜ now (scratch .exit)
+        ≡ scratchLeft (tooLittle (now (scratch .entry)) (now (places .entry))) (now (scratch .entry)) ⌝ }
+{
+    match best::best_chain(n, parts_limit, a_limit, b_limit, d, t, s, scratch, places) {
+        Chosen::Chain {
+            position: i,
+            k: parts,
+            price: cost,
+        } => {
+            *position = i;
+            *k = parts;
+            *price = cost;
+            0
+        }
+        Chosen::Refused(number) => number,
+    }
+}
