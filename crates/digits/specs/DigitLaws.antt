@@ -119,6 +119,14 @@ pub every-from : (p : ℕ → Bool) (s : List ℕ) (i : ℕ) → i < length s �
 unfolding every
 every-from p s i h = rw (drop-cons s i 0, add-one)
 
+-- A test that passes wherever another does.
+pub every-weaker : (p q : ℕ → Bool) → ((c : ℕ) → p c ≡ true → q c ≡ true) → (s : List ℕ) → every p s ≡ true → every q s ≡ true
+unfolding every
+every-weaker p q w [] e = refl
+every-weaker p q w (c ∷ s) e =
+    let r = and-eq-true-iff (p c) (every p s) .0 e in
+    rw (w c (r .0), every-weaker p q w s (r .1))
+
 -- What holds of the character of each value holds of every digit of a number.
 every-digits : (p : ℕ → Bool) → ((v : ℕ) → v < 16 → p (digitOf v) ≡ true) → (k n : ℕ) → every p (digitsOf k n) ≡ true
 unfolding every digitsOf

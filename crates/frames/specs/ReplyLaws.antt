@@ -1,8 +1,8 @@
 -- Theory of the reply to a line.
 --
 -- In this order: a line's first 515 characters (`first-515`); replies by their kind; the chains of replies are chains of n; every reply
--- is an even number of digits, at least 2 and at most 300, all of them as they are written (`reply-frame`); what a chain's reply is read
--- back as (`reply-read`).
+-- is an even number of digits, at least 2 and at most 300, all of them as they are written (`reply-frame`), so that it is one line
+-- (`reply-unbroken`); what a chain's reply is read back as (`reply-read`).
 -- That replies lead to each other, as demand 2 asks, is in LineTrips; demand 3 is in BestLines.
 use mathlib.Core.Path.{_≡_, refl}
 use mathlib.Core.Bool.{Bool, true, false}
@@ -32,6 +32,8 @@ use Rattle.digits.specs.DigitLaws.{every-append, length-digits, written-digits}
 use Rattle.lines.specs.Kinds.{Kind, counting, choosing, placing, recording, wording, following, kindOf}
 use Rattle.lines.specs.Lines.{field, Shape, unfit, fit, shapeOf, lettersIn, numbersIn}
 use Rattle.lines.specs.LineLaws.{field-below, fit-line, reply-515}
+use Rattle.lines.specs.Stream.{unbroken}
+use Rattle.lines.specs.StreamLaws.{digits-unbroken}
 use Rattle.frames.specs.ReplyDigits.{countDigits, headDigits, chainDigits, pricedDigits, length-count, length-chain, length-priced, every-values}
 use Rattle.frames.specs.ReadBack.{Fitting, ChainRead, chain-read}
 use Rattle.frames.specs.Replies.{servedWith, digitsIn, chainReply, pricedReply, limitsIn, pricesIn, served, replyByShape, replyTo, replyOf}
@@ -230,6 +232,10 @@ reply-frame line = go (shapeOf line)
 -- So it fits into the bytes that are lent for it.
 pub reply-short : (line : List ℕ) → length (replyOf line) ≤ 514
 reply-short line = omega (arith, reply-frame line .most)
+
+-- And no byte 10 is in it.
+pub reply-unbroken : (line : List ℕ) → unbroken (replyOf line) ≡ true
+reply-unbroken line = digits-unbroken (replyOf line) (reply-frame line .digits)
 
 -- ---- what a chain's reply is read back as
 

@@ -1,17 +1,19 @@
 -- However a file is cut into blocks, and though of a long line only the first characters are kept, the replies are those to the
--- file's lines, one each, in order.
+-- file's lines, one each, in order; and the replies, taken apart into lines, are these again.
 --
 -- In this order: one character more; two pieces one after the other; a stretch without byte 10, and one that byte 10 ends; the
 -- replies; lines of which only the first m characters are kept; the blocks of a file.
 use mathlib.Core.Path.{_≡_, refl, sym, ap, _∙_}
 use mathlib.Core.Bool.{Bool, true, false, not, and-eq-true-iff, false≢true}
-use mathlib.Core.List.{List, [], _∷_, _++_, append-nil, append-assoc, flatten}
+use mathlib.Core.List.{List, [], _∷_, _++_, append-nil, append-assoc, flatten, map}
 use Prim.Native.Nat.{ℕ, zero, suc, _<_}
 use native.Mathlib.Omega.{arith}
+use borrow.Author.Tests.{eqb-true}
 use lib.Dec.{eqb}
 use lib.ListN.{take}
 use lib.Seq.{append-snoc, take-nil, take-take}
-use Rattle.digits.specs.Digits.{every}
+use Rattle.digits.specs.Digits.{within, isWritten, every}
+use Rattle.digits.specs.DigitLaws.{every-weaker}
 use Rattle.lines.specs.Stream.{finished, unfinished, lastLine, linesFrom, linesOf, repliesTo, unbroken, answersTo}
 
 -- ---- one character more
@@ -92,6 +94,15 @@ unfinished-stretch =
     (λ l c s e h u. absurd (false≢true (ap not (sym e) ∙ unbroken-first c s u .0)))
     (λ l c s e h u. unfinished-more l c s e ∙ h (unbroken-first c s u .1) ∙ append-snoc l c s)
 
+-- Byte 10 is no digit.
+pub digits-unbroken : (s : List ℕ) → every isWritten s ≡ true → unbroken s ≡ true
+unfolding unbroken isWritten within
+digits-unbroken s e = every-weaker isWritten (λ c. not (eqb c 10)) (λ c w. go c (eqb c 10) refl w) s e
+  where
+    go : (c : ℕ) (b : Bool) → eqb c 10 ≡ b → isWritten c ≡ true → not b ≡ true
+    go c true t w = absurd (false≢true (rw (eqb-true c 10 t) at w))
+    go c false t w = refl
+
 module _ (line t s : List ℕ) (u : unbroken t ≡ true) where
   pub finished-line : finished line (t ++ (10 ∷ s)) ≡ (line ++ t) ∷ finished [] s
   finished-line =
@@ -113,6 +124,15 @@ replies-append R (line ∷ k) l = rw (replies-append R k l, append-assoc)
 pub replies-pieces : (R : List ℕ → List ℕ) (line a b : List ℕ)
     → repliesTo R (linesFrom line (a ++ b)) ≡ repliesTo R (finished line a) ++ repliesTo R (linesFrom (unfinished line a) b)
 replies-pieces R line a b = rw (lines-append line a b, replies-append)
+
+-- Replies without byte 10, taken apart into lines again: one for each line, in order.
+pub replies-lines : (R : List ℕ → List ℕ) → ((line : List ℕ) → unbroken (R line) ≡ true)
+    → (l : List (List ℕ)) → linesOf (repliesTo R l) ≡ map R l
+unfolding linesOf linesFrom finished unfinished lastLine repliesTo
+replies-lines R u [] = refl
+replies-lines R u (line ∷ l) =
+    rw (finished-line [] (R line) (repliesTo R l) (u line), unfinished-line [] (R line) (repliesTo R l) (u line))
+    (ap (λ (k : List (List ℕ)). R line ∷ k) (replies-lines R u l))
 
 -- ---- lines of which only the first m characters are kept
 

@@ -1,18 +1,18 @@
 -- All calls on a file together: however the file is cut into blocks, and however much of a block each call uses, what the calls write is
 -- one reply for each line of the file, in order.
 --
--- In this order: a call moves on; what it writes and keeps; the calls on a file; the theorem.
+-- In this order: a call moves on; what it writes and keeps; the calls on a file; the theorem; what is written, line by line.
 use mathlib.Core.Path.{_≡_, refl, sym, ap, _∙_}
-use mathlib.Core.List.{List, [], _∷_, _++_, flatten}
+use mathlib.Core.List.{List, [], _∷_, _++_, flatten, map}
 use Prim.Native.Nat.{ℕ, zero, suc, _+_, _≤_, _<_}
 use native.Mathlib.Omega.{arith}
-use lib.ListN.{length, take, length-append, length-take}
+use lib.ListN.{length, take, getD, length-append, length-take, length-map}
 use lib.Seq.{take-at}
 use Rattle.lent.specs.Lent.{filled-first}
 use Rattle.lines.specs.Stream.{finished, unfinished, lastLine, linesOf, repliesTo, answersTo}
-use Rattle.lines.specs.StreamLaws.{answers-lines}
+use Rattle.lines.specs.StreamLaws.{replies-lines, answers-lines}
 use Rattle.frames.specs.Replies.{replyOf}
-use Rattle.frames.specs.ReplyLaws.{first-515}
+use Rattle.frames.specs.ReplyLaws.{first-515, reply-unbroken}
 use Rattle.stream.specs.Answers.{Enough, behind, Wrote, Goes, Answered, BlockAnswer}
 use Rattle.stream.specs.declared.Fed.{Fed}
 
@@ -77,3 +77,24 @@ session-answers (block-call line block kept keptExit out outExit r pieces writte
 -- From the start of a file, which the pieces make: the replies to its lines.
 pub session-replies : (pieces : List (List ℕ)) (written : List ℕ) → Session [] pieces written → written ≡ repliesTo replyOf (linesOf (flatten pieces))
 session-replies pieces written s = session-answers s ∙ answers-lines replyOf 515 (omega arith) first-515 pieces
+
+-- ---- what is written, line by line
+
+getD-map : {A B : Type 0} (f : A → B) (l : List A) (i : ℕ) (a : A) (b : B) → i < length l → getD (map f l) i b ≡ f (getD l i a)
+getD-map f [] i a b h = absurd (omega arith)
+getD-map f (x ∷ l) zero a b h = refl
+getD-map f (x ∷ l) (suc i) a b h = getD-map f l i a b (omega arith)
+
+module _ (pieces : List (List ℕ)) (written : List ℕ) (s : Session [] pieces written) where
+  -- Taken apart into lines, what is written is the reply to each line of the file, in order.
+  pub line-by-line : linesOf written ≡ map replyOf (linesOf (flatten pieces))
+  line-by-line = rw (session-replies pieces written s) (replies-lines replyOf reply-unbroken (linesOf (flatten pieces)))
+
+  -- There are as many lines of replies as lines of the file.
+  pub as-many-lines : length (linesOf written) ≡ length (linesOf (flatten pieces))
+  as-many-lines = ap length line-by-line ∙ length-map (linesOf (flatten pieces)) replyOf
+
+  -- The i-th line of replies is the reply to the i-th line of the file.
+  pub reply-at : (i : ℕ) → i < length (linesOf (flatten pieces))
+      → getD (linesOf written) i [] ≡ replyOf (getD (linesOf (flatten pieces)) i [])
+  reply-at i h = rw line-by-line (getD-map replyOf (linesOf (flatten pieces)) i [] [] h)
