@@ -32,8 +32,7 @@ use Rattle.words.specs.declared.Judged.the-variants as judged
 use Rattle.words.specs.declared.Written.the-variants as written
 use Rattle.words.specs.declared.Parted.{Parted}
 use Rattle.words.specs.declared.Parted.the-variants as parted
-use Rattle.counting.specs.Table.{CountsIn}
-use Rattle.counting.specs.TableCount.{TableAsked}
+use Rattle.counting.specs.TableCount.{TableAsked, asked-still-room}
 use Rattle.ranking.specs.Services.{Outcome, refused, gives, pick, lentScratch, tooLittle, lent, scratchLeft, pickList, placedOf, answerOf, placesLeft, judgedAs, ofRecord, ofWord, standing, after, nextOf}
 use Rattle.ranking.specs.Outcomes.{standing-below, of-chain, of-gives, of-weighed, of-over, position-word}
 use Rattle.ranking.specs.Walks.{wordAt, WordFound, Tabled}
@@ -57,21 +56,14 @@ scratch-served s t o r h e f = rw (le-ltb (length s) scratchSize h) (e, f)
 
 -- ---- the scratch with a table
 
--- Where the scratch has room, the table is there, and what stands behind it is as it was.
-pub filled-counts :
-    {r : Bool} {n : ℕ} {entry l : List ℕ}
-    → (r ≡ leb scratchSize (length entry)) × TableAsked r n entry l
-    → scratchSize ≤ length entry
-    → CountsIn n entry l
-filled-counts {entry} f h = f .1 .there (f .0 ∙ le-leb scratchSize (length entry) h)
+-- Where the scratch has room, the table is there, and zeroing it leaves what zeroing it at entry would.
+module _ {n : ℕ} {entry l : List ℕ} (f : TableAsked n entry l) (h : scratchSize ≤ length entry) where
+  pub filled-table : Tabled n l
+  filled-table = record { size = asked-still-room f h; table = f .there h .rows }
 
-pub filled-table : {n : ℕ} {entry l : List ℕ} → CountsIn n entry l → scratchSize ≤ length entry → Tabled n l
-filled-table f h = record { size = omega (arith, f .same); table = f .rows }
-
--- Zeroing it, then, leaves what zeroing it at entry would.
-pub filled-again : (entry l : List ℕ) → drop scratchSize l ≡ drop scratchSize entry → filled scratchSize [] l ≡ filled scratchSize [] entry
-unfolding filled
-filled-again entry l e = rw e
+  pub filled-again : filled scratchSize [] l ≡ filled scratchSize [] entry
+  unfolding filled
+  filled-again = rw (f .there h .later)
 
 -- ---- a record
 

@@ -91,7 +91,8 @@ pub record Readable (letters : Word) (scratch : List ℕ) : Type 0 where
   pub good : T (reads true letters)
   pub room : scratchSize ≤ length scratch
 
--- The table of n in the scratch, and 64 places.
-pub record Giving (n : ℕ) (scratch places : List ℕ) : Type 0 where
+-- The table of n in the scratch, its count k, and 64 places.
+pub record Giving (n k : ℕ) (scratch places : List ℕ) : Type 0 where
   pub counts : Tabled n scratch
+  pub number : k ≡ count n
   pub room : 64 ≤ length places

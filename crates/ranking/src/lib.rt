@@ -2,6 +2,7 @@
 mod tables;
 mod walks;
 
+use counting::Counted;
 use words::Parted;
 use words::Weighed;
 use words::Written;
@@ -77,10 +78,10 @@ pub fn chain_at(n: u64, position: u64, scratch: &mut [u64], places: &mut [u16]) 
     if places.len() < 64 {
         return Found::Refused(1);
     }
-    if !counting::fill_counts(n, scratch) {
+    let Counted::Count(count) = counting::fill_counts(n, scratch) else {
         return Found::Refused(1);
-    }
-    tables::give_at(n, position, 6, scratch, places)
+    };
+    tables::give_at(n, count, position, 6, scratch, places)
 }
 
 // The chain after a word's in its list; the part numbers in the places. Refuses with 1, 7, 10 in that order, then with 11 where the
