@@ -1,12 +1,12 @@
--- How large a chain, its word and the points of its walk can be: document 01, 'Parts and chains'.
--- In order: the letters of a word that a reader takes; the parts of a word and of a chain; the letters of a chain's word; the points of
--- the walk. A bound on letters or parts takes any power of two: with 2^64 a chain has at most 64 parts, and its word 64 letters.
+-- How large a chain and its word can be: document 01, 'Parts and chains'.
+-- In order: the letters of a word that a reader takes; the parts of a word and of a chain; the letters of a chain's word. A bound on
+-- letters or parts takes any power of two: with 2^64 a chain has at most 64 parts, and its word 64 letters.
 use mathlib.Core.Path.{_≡_, refl, sym, ap, _∙_}
 use mathlib.Core.Logic.{⊎-elim}
 use mathlib.Core.Bool.{Bool, true, false, _&&_}
 use mathlib.Core.List.{List, [], _∷_, _++_, List·Memᴰ, List·Memᴰ·not-nil, List·Memᴰ·cases-cons}
 use Prim.Native.Nat.{ℕ, zero, suc, _+_, _-_, _*_, _^_, _≤_, _<_}
-use native.Mathlib.Nat.{le-mul-of-pos-right, pow-suc}
+use native.Mathlib.Nat.{pow-suc}
 use native.Mathlib.Omega.{arith}
 use lib.Dec.{T}
 use lib.Ieee.Fits.{and-l, and-r}
@@ -18,7 +18,6 @@ use Rattle.chains.specs.Listing.{one-if}
 use Rattle.chains.specs.Divides.{Above, multiple-above}
 use Rattle.chains.specs.RoundTrip.{chain-word-chain, word-reads}
 use Rattle.chains.specs.Weight.{weight, total-chainOf}
-use Rattle.chains.specs.Rest.{pointAfter, weight-append}
 
 -- ---- the letters of a word
 
@@ -77,12 +76,9 @@ part-total [] p m = absurd (List·Memᴰ·not-nil m)
 part-total (q ∷ c) p m =
     ⊎-elim (λ (e : p ≡ q). omega (arith, ap value e)) (λ (t : List·Memᴰ p c). omega (arith, part-total c p t)) (List·Memᴰ·cases-cons m)
 
--- So it is at most the number that the chain, or the word, stands for.
+-- So it is at most the number that the chain stands for.
 pub part-at-most : (n : ℕ) (c : List Part) (p : Part) → ChainOf n c → List·Memᴰ p c → value p ≤ n
 part-at-most n c p h m = omega (arith, part-total c p m)
-
-pub part-weight : (w : Word) (p : Part) → List·Memᴰ p (chainOf w) → value p ≤ weight w
-part-weight w p m = omega (arith, part-total (chainOf w) p m, total-chainOf w)
 
 -- ---- the letters of a chain's word
 
@@ -119,30 +115,3 @@ length-walk p (q ∷ c) w h =
 pub word-length : (p : Part) (c : List Part) → Chained (p ∷ c) → length (wordOf (p ∷ c)) ≡ p .a + p .b + 1
 unfolding wordOf
 word-length p c h = length-walk p c (3 ∷ []) h
-
--- ---- the points of the walk
-
--- The letters after a point are read there by one of the two readers.
-reads-rest : (u v : Word) (f : Bool) → T (reads f (u ++ v)) → (g : Bool) × T (reads g v)
-unfolding reads
-reads-rest [] v f h = (f, h)
-reads-rest (zero ∷ u) v f h = reads-rest u v false h
-reads-rest (suc zero ∷ u) v f h = reads-rest u v false h
-reads-rest (suc (suc zero) ∷ u) v f h =
-    reads-rest u v true
-    (and-r (someLeft (u ++ v)) (reads true (u ++ v)) (and-r f (someLeft (u ++ v) && reads true (u ++ v)) h))
-reads-rest (suc (suc (suc zero)) ∷ u) v f h = reads-rest u v true h
-reads-rest (suc (suc (suc (suc x))) ∷ u) v f h = absurd h
-
--- What is left at a point where a letter stands is not nothing.
-weight-pos : (f : Bool) (l : ℕ) (v : Word) → T (reads f (l ∷ v)) → 0 < weight (l ∷ v)
-unfolding one-if someLeft
-weight-pos true l v h = omega (arith, letters-weight (l ∷ v) true h, two-le-pow (l ∷ v) tt)
-weight-pos false l v h = omega (arith, letters-weight (l ∷ v) false h, two-le-pow (l ∷ v) tt)
-
--- A point where a letter stands has a value of at most the number that the word stands for.
-pub point-at-most : (u : Word) (l : ℕ) (v : Word) → T (reads true (u ++ (l ∷ v))) → value (pointAfter origin u) ≤ weight (u ++ (l ∷ v))
-point-at-most u l v h =
-    let r : (g : Bool) × T (reads g (l ∷ v)) = reads-rest u (l ∷ v) true h in
-    rw weight-append
-    (omega (arith, le-mul-of-pos-right (value (pointAfter origin u)) (weight-pos (r .0) l v (r .1))))

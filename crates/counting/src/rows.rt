@@ -5,7 +5,6 @@
 // m >> a, its third q >> a, where m and q are the rests of the first columns of the row and of the row above. Two masks, made once
 // a row, hold the remainders by three of all its rests, so no cell is divided, and a bit of a mask makes a factor and no branch. A
 // row is 128 numbers: 64 columns of two.
-ghost use mathlib.Core.Path.{_≡_};
 ghost use Prim.Native.Nat.{_+_, _*_, _^_, _≤_, _<_};
 ghost use lib.ListN.{length};
 ghost use Rattle.grid.specs.Grid.{RowAsked, RowFilled, RowsAsked, RowsFilled};

@@ -81,9 +81,6 @@ product-at i h =
 pub part-value : (i : ℕ) → i < 1344 → value (partAt i) ≡ getD parts i 0
 part-value i h = product-at i h .0
 
-pub part-below : (i : ℕ) → i < 1344 → getD parts i 0 < limit
-part-below i h = product-at i h .1
-
 -- ---- each point
 
 -- The exponents of a part below 2^64.

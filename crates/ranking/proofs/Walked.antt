@@ -17,10 +17,11 @@ use Rattle.chains.specs.Weight.{weight}
 use Rattle.chains.specs.Counts.{ways, count-ways, ways-at-0-free, ways-at-0-after-a, ways-at-most, ways-rem-2, count-0, count-at-most}
 use Rattle.chains.specs.Members.{member-words}
 use Rattle.chains.specs.Positions.{words-at-position, word-at-position, position-rise-a, position-rise-b, word-rise-a, word-rise-b}
+use Rattle.grid.specs.Rests.{restAt, rest-origin, rest-right, rest-up, point-low}
 use Rattle.grid.specs.Fill.{read-after-a}
 use Rattle.counting.specs.Table.{countCell, cell-live}
 use Rattle.ranking.specs.Walks.{Tabled, RankWalked, wordAt, WordWalked, WordRisen, WordFound}
-use Rattle.ranking.specs.Points.{restAt, rest-origin, rest-right, rest-up, point-low, Between, between, drop-more, take-more, take-stored}
+use Rattle.ranking.specs.Points.{Between, between, drop-more, take-more, take-stored}
 
 -- ---- the table
 

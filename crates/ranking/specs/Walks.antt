@@ -12,8 +12,8 @@ use Rattle.chains.specs.Words.{Word, reads}
 use Rattle.chains.specs.Listing.{wordsAt, listOf, count, countBefore}
 use Rattle.chains.specs.Counts.{ways}
 use Rattle.grid.specs.Grid.{scratchSize, Table}
+use Rattle.grid.specs.Rests.{restAt}
 use Rattle.counting.specs.Table.{countCell}
-use Rattle.ranking.specs.Points.{restAt}
 
 -- The count table of n stands in the scratch.
 pub record Tabled (n : ℕ) (scratch : List ℕ) : Type 0 where

@@ -2,11 +2,11 @@
 // a word, from the point (0, 0) up; the next letter's index is a + b. Where b rises, the words with a rise of a there stand before.
 ghost use mathlib.Core.Path.{_≡_};
 ghost use mathlib.Core.Bool.{false};
-ghost use Prim.Native.Nat.{_+_, _/_, _≤_, _<_};
-ghost use lib.ListN.{length, take};
+ghost use Prim.Native.Nat.{_+_, _/_, _<_};
 ghost use Rattle.chains.specs.Listing.{listOf, countBefore};
 ghost use Rattle.chains.specs.Counts.{ways};
-ghost use Rattle.ranking.specs.Points.{restAt, Between};
+ghost use Rattle.grid.specs.Rests.{restAt};
+ghost use Rattle.ranking.specs.Points.{Between};
 ghost use Rattle.ranking.specs.Walks.{Tabled, RankStart, RankStep, RankWalked, WordStart, WordStep, WordRisen, WordFound};
 
 // How many words begin with a rise of a at the point (a, b): the number in the next column.

@@ -7,7 +7,7 @@ use native.Mathlib.Nat.{le-refl, le-trans}
 use native.Mathlib.Omega.{arith}
 use lib.Dec.{ltb}
 use lib.ListN.{drop}
-use borrow.Author.Tests.{lt-ltb, le-ltb, ltb-true, ltb-false}
+use borrow.Author.Tests.{lt-ltb, le-ltb, ltb-false}
 use Rattle.chains.specs.Words.{Word}
 use Rattle.chains.specs.Weight.{weight}
 use Rattle.words.specs.Answers.{pickWeighed, sized}
@@ -28,14 +28,6 @@ number-is n m e = go (ltb n (2 ^ 64)) e
     go : (t : Bool) → Number m ≡ pickWeighed t (Number n) Over → m ≡ n
     go true d = cc
     go false d = cc
-
-pub number-below : (n m : ℕ) → Number m ≡ sized n → n < 2 ^ 64
-unfolding sized pickWeighed
-number-below n m e = go (ltb n (2 ^ 64)) refl e
-  where
-    go : (t : Bool) → ltb n (2 ^ 64) ≡ t → Number m ≡ pickWeighed t (Number n) Over → n < 2 ^ 64
-    go true d f = ltb-true n (2 ^ 64) d
-    go false d f = let z : _≡_ {A = ℕ} 0 1 = cc in absurd (omega arith)
 
 pub over-is : (n : ℕ) → Over ≡ sized n → 2 ^ 64 ≤ n
 unfolding sized pickWeighed
