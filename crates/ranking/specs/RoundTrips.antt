@@ -47,50 +47,40 @@ unfolding lentScratch pick
 scratch-enough scratch o h = rw (le-ltb (length scratch) scratchSize h)
 
 -- A chain is answered only where enough is lent and the service's own outcome gives one.
-pick-gives : (b : Bool) (r : ℕ) (o : Outcome) (n : ℕ) (c : List Part) → pick b (refused r) o ≡ gives n c → (b ≡ false) × (o ≡ gives n c)
+pick-gives :
+    (b : Bool) (o : Outcome)
+    → ((r : ℕ) → pick b (refused 1) o ≡ refused r → ⊥)
+    → (n : ℕ) × (c : List Part) × (b ≡ false) × (o ≡ gives n c)
 unfolding pick
-pick-gives true r o n c e =
-    let z : _≡_ {A = ℕ} 0 1 = cc in
-    absurd (omega arith)
-pick-gives false r o n c e = (refl, e)
+pick-gives true o given = absurd (given 1 refl)
+pick-gives false (refused r) given = absurd (given r refl)
+pick-gives false (gives n c) given = (n, c, refl, refl)
 
 found-gives :
     {P : Type 0} (scratch places : List ℕ) (o : Outcome) (n i k : ℕ)
     → answerOf (lent scratch places o) ≡ found.Chain n i k
     → ((c : List Part) → o ≡ gives n c → tooLittle scratch places ≡ false → position n c ≡ i → length c ≡ k → P)
     → P
-unfolding lent answerOf
-found-gives {P} scratch places o n i k e then = go (lent scratch places o) refl
-  where
-    go : (x : Outcome) → lent scratch places o ≡ x → P
-    go (refused r) f =
-        let g = rw f at e in
-        let z : _≡_ {A = ℕ} 0 1 = cc g in
-        absurd (omega arith)
-    go (gives m c) f =
-        let g = rw f at e in
-        let number : m ≡ n = cc g in
-        let own = pick-gives (tooLittle scratch places) 1 o m c f in
-        then c (own .1 ∙ ap (λ (x : ℕ). gives x c) number) (own .0) (cc g) (cc g)
+unfolding lent answerOf pick
+found-gives scratch places o n i k e then =
+    let (m, c, enough, given) =
+    pick-gives (tooLittle scratch places) o (λ r f. let z : _≡_ {A = ℕ} 0 1 = cc (rw f at e) in omega arith) in
+    let g = rw (enough, given) at e in
+    let number : m ≡ n = cc g in
+    then c (given ∙ ap (λ (x : ℕ). gives x c) number) enough (cc g) (cc g)
 
 placed-gives :
     {P : Type 0} (scratch : List ℕ) (o : Outcome) (n i : ℕ)
     → placedOf (lentScratch scratch o) ≡ placed.At n i
     → ((c : List Part) → o ≡ gives n c → position n c ≡ i → P)
     → P
-unfolding lentScratch placedOf
-placed-gives {P} scratch o n i e then = go (lentScratch scratch o) refl
-  where
-    go : (x : Outcome) → lentScratch scratch o ≡ x → P
-    go (refused r) f =
-        let g = rw f at e in
-        let z : _≡_ {A = ℕ} 0 1 = cc g in
-        absurd (omega arith)
-    go (gives m c) f =
-        let g = rw f at e in
-        let number : m ≡ n = cc g in
-        let own = pick-gives (ltb (length scratch) scratchSize) 1 o m c f in
-        then c (own .1 ∙ ap (λ (x : ℕ). gives x c) number) (cc g)
+unfolding lentScratch placedOf pick
+placed-gives scratch o n i e then =
+    let (m, c, enough, given) =
+    pick-gives (ltb (length scratch) scratchSize) o (λ r f. let z : _≡_ {A = ℕ} 0 1 = cc (rw f at e) in omega arith) in
+    let g = rw (enough, given) at e in
+    let number : m ≡ n = cc g in
+    then c (given ∙ ap (λ (x : ℕ). gives x c) number) (cc g)
 
 -- ---- the part numbers in the places
 

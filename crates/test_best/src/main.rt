@@ -18,146 +18,50 @@ struct Prices {
     s: u16,
 }
 
+fn limits(parts: u8, a: u8, b: u8) -> Limits {
+    Limits { parts, a, b }
+}
+
+fn prices(d: u16, t: u16, s: u16) -> Prices {
+    Prices { d, t, s }
+}
+
 // Those of the small numbers, then those of the numbers at the edges, then those of the examples.
 fn limits_at(i: u64) -> Limits {
     match i {
-        0 => Limits {
-            parts: 255,
-            a: 255,
-            b: 255,
-        },
-        1 => Limits {
-            parts: 64,
-            a: 63,
-            b: 40,
-        },
-        2 => Limits {
-            parts: 3,
-            a: 63,
-            b: 40,
-        },
-        3 => Limits {
-            parts: 2,
-            a: 5,
-            b: 2,
-        },
-        4 => Limits {
-            parts: 4,
-            a: 3,
-            b: 40,
-        },
-        5 => Limits {
-            parts: 3,
-            a: 63,
-            b: 1,
-        },
-        6 => Limits {
-            parts: 1,
-            a: 255,
-            b: 255,
-        },
-        7 => Limits {
-            parts: 0,
-            a: 0,
-            b: 0,
-        },
-        8 => Limits {
-            parts: 5,
-            a: 0,
-            b: 40,
-        },
-        9 => Limits {
-            parts: 6,
-            a: 63,
-            b: 0,
-        },
-        10 => Limits {
-            parts: 255,
-            a: 255,
-            b: 255,
-        },
-        11 => Limits {
-            parts: 63,
-            a: 63,
-            b: 40,
-        },
-        12 => Limits {
-            parts: 62,
-            a: 63,
-            b: 40,
-        },
-        13 => Limits {
-            parts: 64,
-            a: 63,
-            b: 0,
-        },
-        14 => Limits {
-            parts: 63,
-            a: 63,
-            b: 0,
-        },
-        15 => Limits {
-            parts: 64,
-            a: 0,
-            b: 40,
-        },
-        16 => Limits {
-            parts: 255,
-            a: 62,
-            b: 40,
-        },
-        17 => Limits {
-            parts: 255,
-            a: 63,
-            b: 39,
-        },
-        18 => Limits {
-            parts: 2,
-            a: 63,
-            b: 40,
-        },
-        19 => Limits {
-            parts: 1,
-            a: 63,
-            b: 40,
-        },
-        20 => Limits {
-            parts: 255,
-            a: 255,
-            b: 255,
-        },
-        _ => Limits {
-            parts: 0,
-            a: 0,
-            b: 0,
-        },
+        0 => limits(255, 255, 255),
+        1 => limits(64, 63, 40),
+        2 => limits(3, 63, 40),
+        3 => limits(2, 5, 2),
+        4 => limits(4, 3, 40),
+        5 => limits(3, 63, 1),
+        6 => limits(1, 255, 255),
+        7 => limits(0, 0, 0),
+        8 => limits(5, 0, 40),
+        9 => limits(6, 63, 0),
+        10 => limits(255, 255, 255),
+        11 => limits(63, 63, 40),
+        12 => limits(62, 63, 40),
+        13 => limits(64, 63, 0),
+        14 => limits(63, 63, 0),
+        15 => limits(64, 0, 40),
+        16 => limits(255, 62, 40),
+        17 => limits(255, 63, 39),
+        18 => limits(2, 63, 40),
+        19 => limits(1, 63, 40),
+        20 => limits(255, 255, 255),
+        _ => limits(0, 0, 0),
     }
 }
 
 fn prices_of(i: u64) -> Prices {
     match i {
-        0 => Prices { d: 4, t: 7, s: 9 },
-        1 => Prices { d: 0, t: 0, s: 0 },
-        2 => Prices {
-            d: 65535,
-            t: 65535,
-            s: 65535,
-        },
-        3 => Prices {
-            d: 1,
-            t: 65535,
-            s: 0,
-        },
-        4 => Prices {
-            d: 65535,
-            t: 1,
-            s: 3,
-        },
-        _ => Prices {
-            d: 0,
-            t: 1,
-            s: 65535,
-        },
+        0 => prices(4, 7, 9),
+        1 => prices(0, 0, 0),
+        2 => prices(65535, 65535, 65535),
+        3 => prices(1, 65535, 0),
+        4 => prices(65535, 1, 3),
+        _ => prices(0, 1, 65535),
     }
 }
 
@@ -286,21 +190,9 @@ fn around(need: u64, at: u64) -> u8 {
 
 fn variant(i: u64, need: Need) -> Limits {
     match i {
-        3 => Limits {
-            parts: 255,
-            a: around(need.a, need.at_a),
-            b: 255,
-        },
-        4 => Limits {
-            parts: 255,
-            a: 255,
-            b: around(need.b, need.at_b),
-        },
-        _ => Limits {
-            parts: around(need.parts, i),
-            a: 255,
-            b: 255,
-        },
+        3 => limits(255, around(need.a, need.at_a), 255),
+        4 => limits(255, 255, around(need.b, need.at_b)),
+        _ => limits(around(need.parts, i), 255, 255),
     }
 }
 
