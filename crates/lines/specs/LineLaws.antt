@@ -16,7 +16,7 @@ use lib.Seq.{take-all, take-nil, drop-cons}
 use Rattle.digits.specs.Digits.{valueOr0, allDigits, numberOf, readFrom}
 use Rattle.digits.specs.DigitLaws.{number-below, number-fits}
 use Rattle.lines.specs.Kinds.{Kind, counting, choosing, placing, recording, wording, following, kindOf, byteOf, bytesIn, bytesOf}
-use Rattle.lines.specs.Lines.{field, fields, Shape, unfit, fit, pickShape, badLength, shapeOfKind, shapeOf, shapeCode, fieldsIn, written}
+use Rattle.lines.specs.Lines.{field, fields, Shape, unfit, fit, badLength, shapeOfKind, shapeOf, shapeCode, fieldsIn, written}
 use Rattle.lines.specs.declared.Shape.the-variants as answer
 
 -- ---- one field
@@ -163,16 +163,16 @@ length-proper n e =
 -- ---- which lines are refused, and which are fit
 
 pub unfit-length : (line : List ℕ) → badLength (length line) ≡ true → shapeOf line ≡ unfit 2
-unfolding shapeOf pickShape
-unfit-length line e = rw (e, pickShape)
+unfolding shapeOf
+unfit-length line e = rw e
 
 pub unfit-character : (line : List ℕ) → Proper (length line) → allDigits line ≡ false → shapeOf line ≡ unfit 3
-unfolding shapeOf pickShape
-unfit-character line p e = rw (proper-length (length line) p, e, pickShape)
+unfolding shapeOf
+unfit-character line p e = rw (proper-length (length line) p, e)
 
 pub shape-kind : (line : List ℕ) → Proper (length line) → allDigits line ≡ true → shapeOf line ≡ shapeOfKind line (kindOf (field line 0 1))
-unfolding shapeOf pickShape
-shape-kind line p e = rw (proper-length (length line) p, e, pickShape)
+unfolding shapeOf
+shape-kind line p e = rw (proper-length (length line) p, e)
 
 -- A line of no kind, and a line of a kind by its length.
 pub unfit-kind : (line : List ℕ) (o : Option Kind) → o ≡ none → shapeOfKind line o ≡ unfit 4
@@ -181,11 +181,11 @@ unfit-kind line o e = rw e
 
 module _ (line : List ℕ) (o : Option Kind) (k : Kind) (e : o ≡ some k) where
   pub unfit-kind-length : (length line ≡ 2 * bytesIn k (field line 1 1) → ⊥) → shapeOfKind line o ≡ unfit 2
-  unfolding shapeOfKind pickShape
+  unfolding shapeOfKind
   unfit-kind-length h = rw (e, ne-eqb (length line) (2 * bytesIn k (field line 1 1)) h)
 
   pub fit-kind-length : length line ≡ 2 * bytesIn k (field line 1 1) → shapeOfKind line o ≡ fit k
-  unfolding shapeOfKind pickShape
+  unfolding shapeOfKind
   fit-kind-length h = rw (e, eq-eqb (length line) (2 * bytesIn k (field line 1 1)) h)
 
 -- What is known of a line that is fit.

@@ -13,7 +13,7 @@ use borrow.Author.Tests.{lt-ltb, le-ltb}
 use Rattle.chains.specs.Chains.{Part, value}
 use Rattle.chains.specs.Divides.{value-pos, value-unique}
 use Rattle.parts.specs.Table.{rows, joined, parts}
-use Rattle.parts.specs.Parts.{limit, times, partAt, placeOf, numberOf, pickNumber}
+use Rattle.parts.specs.Parts.{limit, times, partAt, placeOf, numberOf}
 use Rattle.parts.specs.declared.Number.the-variants.{At, None}
 use Rattle.parts.specs.Tests.{each, at-each, below, at-below, ascending, ascending-pair, smaller-at, in-32s, look, look-joined}
 
@@ -144,11 +144,11 @@ parts-complete p h = rw (place-rank p h) (at-rank p h)
 
 -- The answer of `number_of`.
 pub number-none : (p : Part) → (value p < limit → ⊥) → numberOf p ≡ None
-unfolding numberOf pickNumber
+unfolding numberOf
 number-none p h = rw (le-ltb (value p) limit (le-of-suc-le-suc (lt-of-not-le h)))
 
 pub number-at : (p : Part) → value p < limit → numberOf p ≡ At (placeOf p)
-unfolding numberOf pickNumber
+unfolding numberOf
 number-at p h = rw (lt-ltb (value p) limit h)
 
 -- ---- numbers and parts lead to each other

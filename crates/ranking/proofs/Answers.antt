@@ -2,7 +2,7 @@
 -- scratch with a table; a record by its word; a word by its parts; too little lent to a service with places, and enough; the chain at a
 -- position; the next chain of a word.
 use mathlib.Core.Path.{_≡_, refl, sym, ap, _∙_}
-use mathlib.Core.Bool.{Bool, true, false, _||_}
+use mathlib.Core.Bool.{Bool, true, false, or-true}
 use mathlib.Core.List.{List, [], List·Memᴰ}
 use Prim.Native.Nat.{ℕ, _+_, _-_, _^_, _≤_, _<_}
 use native.Mathlib.Nat.{sub-zero}
@@ -13,11 +13,9 @@ use borrow.Author.Tests.{lt-ltb, le-ltb}
 use Rattle.chains.specs.Words.{Word, wordOf, reads}
 use Rattle.chains.specs.Listing.{listOf, count, countBefore, position, chainAt}
 use Rattle.chains.specs.Weight.{weight}
-use Rattle.chains.specs.Readers.{readers-good}
-use Rattle.chains.specs.Members.{getD-member}
-use Rattle.chains.specs.Listed.{list-of-chains, chain-listed}
-use Rattle.chains.specs.PositionsOfChains.{chainAt-chain, position-at}
-use Rattle.chains.specs.RoundTrip.{word-reads, word-chain-word}
+use Rattle.chains.specs.Listed.{chain-listed}
+use Rattle.chains.specs.PositionsOfChains.{chainAt-chain, word-chainAt, position-at}
+use Rattle.chains.specs.RoundTrip.{word-reads}
 use Rattle.chains.specs.Bounds.{word-bound}
 use Rattle.chains.specs.Chains.{Part}
 use Rattle.lent.specs.Lent.{filled, filled-first}
@@ -195,11 +193,7 @@ word-over w h e = rw (of-over w h e)
 
 pub little-places : (s p : List ℕ) → length p < 64 → tooLittle s p ≡ true
 unfolding tooLittle
-little-places s p h = rw (lt-ltb (length p) 64 h) (or-true (ltb (length s) scratchSize))
-  where
-    or-true : (b : Bool) → (b || true) ≡ true
-    or-true true = refl
-    or-true false = refl
+little-places s p h = rw (lt-ltb (length p) 64 h, or-true)
 
 pub little-scratch : (s p : List ℕ) → length s < scratchSize → tooLittle s p ≡ true
 unfolding tooLittle
@@ -232,16 +226,10 @@ enough-refused s p s′ o r x h k e f g =
 -- ---- the chain at a position
 
 module _ (r n i : ℕ) (h : i < count n) (f : n < 2 ^ 64) where
-  word-of-chain : wordOf (chainAt n i) ≡ wordAt n i
-  unfolding chainAt count
-  word-of-chain =
-      let good = list-of-chains n (wordAt n i) .0 (getD-member (listOf n) i h) .0 in
-      word-chain-word (wordAt n i) (readers-good (wordAt n i) .1 good)
-
   -- Reading the word at a position gives the chain there.
   below-word : ofWord (wordAt n i) ≡ standing r n i
   below-word =
-      ap ofWord (sym word-of-chain) ∙ of-chain n (chainAt n i) (chainAt-chain n i h) f ∙ sym (standing-below r n i h)
+      ap ofWord (sym (word-chainAt n i h)) ∙ of-chain n (chainAt n i) (chainAt-chain n i h) f ∙ sym (standing-below r n i h)
 
   -- The word is written in the first k letters, and its parts are looked for: x is the answer of `word_parts`.
   module _ (k : ℕ) (letters entry : List ℕ) (w : WordFound n i k letters) (room : 64 ≤ length entry) (x : Parted) where

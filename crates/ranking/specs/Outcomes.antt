@@ -22,7 +22,7 @@ use Rattle.parts.specs.Parts.{placeOf}
 use Rattle.words.specs.Records.{recordParts, judgedOf}
 use Rattle.words.specs.RecordLaws.{in-table, judged-sum}
 use Rattle.words.specs.WordLaws.{parts-of-places, places-of-parts, chain-judged}
-use Rattle.words.specs.Answers.{pickWeighed, sized, weighedOf}
+use Rattle.words.specs.Answers.{sized, weighedOf}
 use Rattle.words.specs.declared.Weighed.the-variants.{Number, Over}
 use Rattle.words.specs.declared.Judged.{Judged}
 use Rattle.words.specs.declared.Judged.the-variants as judged
@@ -106,7 +106,7 @@ of-gives w n c e = go (reads true w) refl (ltb (weight w) (2 ^ 64)) refl
 -- A good word by what it weighs.
 pub of-weighed : (w : Word) (n : ℕ) → T (reads true w) → weighedOf w ≡ Number n
     → (ofWord w ≡ gives n (chainOf w)) × List·Memᴰ w (listOf n)
-unfolding weighedOf sized pickWeighed ofWord pick listOf
+unfolding weighedOf sized ofWord pick listOf
 of-weighed w n h e = go (ltb (weight w) (2 ^ 64)) refl
   where
     go : (f : Bool) → ltb (weight w) (2 ^ 64) ≡ f → (ofWord w ≡ gives n (chainOf w)) × List·Memᴰ w (listOf n)
@@ -120,7 +120,7 @@ of-weighed w n h e = go (ltb (weight w) (2 ^ 64)) refl
         absurd (omega arith)
 
 pub of-over : (w : Word) → T (reads true w) → weighedOf w ≡ Over → ofWord w ≡ refused 10
-unfolding weighedOf sized pickWeighed ofWord pick
+unfolding weighedOf sized ofWord pick
 of-over w h e = go (ltb (weight w) (2 ^ 64)) refl
   where
     go : (f : Bool) → ltb (weight w) (2 ^ 64) ≡ f → ofWord w ≡ refused 10
