@@ -1,8 +1,8 @@
 -- The best chain over all chains of n is that of the best word: document 01, 'Services and memory'; demand 3.
 --
 -- First the definitions: the costs of letters for document 01's prices, where a part counts M, and the chain that they choose
--- (`bestOf`). Then: the key of a word is M for each part of its chain, and the chain's price (`key-price`); the limits on a word; how
--- high a price can be (`price-fits`: below 2^32 for a number of 64 bits and prices of 16); the first word of least key has the
+-- (`bestOf`). Then: the key of a word is M for each part of its chain, and the chain's price (`key-price`); the limits on a word;
+-- how high a price can be (`price-fits`: below 2^32 for a number of 64 bits and prices of 16); the first word of least key has the
 -- earliest position. Last the theorems of record: a number has one best chain at most (`best-unique`); where no price reaches M,
 -- `bestOf` answers none only if no chain is within the limits (`none-fits`), and a chain only if that is the best (`best-is-best`).
 --

@@ -1,6 +1,6 @@
 -- How large a chain and its word can be: document 01, 'Parts and chains'.
--- In order: the letters of a word that a reader takes; the parts of a word and of a chain; the letters of a chain's word. A bound on
--- letters or parts takes any power of two: with 2^64 a chain has at most 64 parts, and its word 64 letters.
+-- In order: the letters of a word that a reader takes; the parts of a word and of a chain; the letters of a chain's word. A bound
+-- on letters or parts takes any power of two: with 2^64 a chain has at most 64 parts, and its word 64 letters.
 use mathlib.Core.Path.{_≡_, refl, sym, ap, _∙_}
 use mathlib.Core.Logic.{⊎-elim}
 use mathlib.Core.Bool.{Bool, true, false, _&&_}
@@ -74,7 +74,8 @@ part-total : (c : List Part) (p : Part) → List·Memᴰ p c → value p ≤ tot
 unfolding total
 part-total [] p m = absurd (List·Memᴰ·not-nil m)
 part-total (q ∷ c) p m =
-    ⊎-elim (λ (e : p ≡ q). omega (arith, ap value e)) (λ (t : List·Memᴰ p c). omega (arith, part-total c p t)) (List·Memᴰ·cases-cons m)
+    ⊎-elim (λ (e : p ≡ q). omega (arith, ap value e)) (λ (t : List·Memᴰ p c). omega (arith, part-total c p t))
+    (List·Memᴰ·cases-cons m)
 
 -- So it is at most the number that the chain stands for.
 pub part-at-most : (n : ℕ) (c : List Part) (p : Part) → ChainOf n c → List·Memᴰ p c → value p ≤ n

@@ -1,5 +1,5 @@
--- The list of n in terms of chains: a word stands in it exactly if it is good and stands for a chain of n, and the word of every chain
--- of n stands in it. What the list holds in terms of words is in Members; positions of chains are in PositionsOfChains.
+-- The list of n in terms of chains: a word stands in it exactly if it is good and stands for a chain of n, and the word of every
+-- chain of n stands in it. What the list holds in terms of words is in Members; positions of chains are in PositionsOfChains.
 use mathlib.Core.Logic.{_↔_, Iff·and, Iff·rfl, Iff·trans}
 use mathlib.Core.List.{List, List·Memᴰ}
 use Prim.Native.Nat.{ℕ}

@@ -1,14 +1,16 @@
 -- Theory of hexadecimal digits.
--- In order: a range of characters; one digit; a test at every character; the number that characters stand for; the digits of a number,
--- and what reading them back gives; digits in a buffer.
--- Only `value-decimal`, `value-capital`, `value-none` and `by-value` look at which characters are digits. Numbers rest on `by-value` (a
--- value is below 16) and `value-digitOf` (what is written is read back), and their laws hold whichever the digits are.
+-- In order: a range of characters; one digit; a test at every character; the number that characters stand for; the digits of a
+-- number, and what reading them back gives; digits in a buffer.
+-- Only `value-decimal`, `value-capital`, `value-none` and `by-value` look at which characters are digits. Numbers rest on
+-- `by-value` (a value is below 16) and `value-digitOf` (what is written is read back), and their laws hold whichever the digits
+-- are.
 use mathlib.Core.Path.{_≡_, refl, sym, ap, _∙_}
 use mathlib.Core.Bool.{Bool, true, false, _&&_, and-assoc, and-eq-true-iff}
 use mathlib.Core.List.{List, [], _∷_, _++_}
 use mathlib.Core.Option.{Option, none, some, Option·getD}
 use Prim.Native.Nat.{ℕ, zero, suc, _+_, _-_, _*_, _/_, _%_, _^_, _≤_, _<_}
-use native.Mathlib.Nat.{add-mul, mul-assoc, mul-le-mul-right, one-le-pow, pow-suc, pow-succ', pow-le-pow-right, mod-one, mod-eq-of-lt}
+use native.Mathlib.Nat.{add-mul, mul-assoc, mul-le-mul-right, one-le-pow, pow-suc, pow-succ', pow-le-pow-right, mod-one}
+use native.Mathlib.Nat.{mod-eq-of-lt}
 use native.Mathlib.Numerals.{add-one}
 use native.Mathlib.Omega.{arith}
 use borrow.Author.Tests.{ltb-true, ltb-false, lt-ltb, le-ltb, leb-true, le-leb, lt-leb}
@@ -16,7 +18,8 @@ use lib.Arith.{mod-mul}
 use lib.Dec.{leb, ltb}
 use lib.ListN.{length, getD, drop, length-append}
 use lib.Seq.{drop-cons}
-use Rattle.digits.specs.Digits.{within, digitValue, isSome, isDigit, valueOr0, digitOf, isWritten, every, allDigits, readFrom, numberOf, digitsOf, putDigits}
+use Rattle.digits.specs.Digits.{within, digitValue, isSome, isDigit, valueOr0, digitOf, isWritten, every, allDigits, readFrom}
+use Rattle.digits.specs.Digits.{numberOf, digitsOf, putDigits}
 
 -- ---- a range of characters
 
@@ -115,7 +118,8 @@ every-append p [] t = refl
 every-append p (c ∷ s) t = ap (λ (b : Bool). p c && b) (every-append p s t) ∙ sym (and-assoc (p c) (every p s) (every p t))
 
 -- The test from the character at i on.
-pub every-from : (p : ℕ → Bool) (s : List ℕ) (i : ℕ) → i < length s → every p (drop i s) ≡ p (getD s i 0) && every p (drop (i + 1) s)
+pub every-from : (p : ℕ → Bool) (s : List ℕ) (i : ℕ) → i < length s
+    → every p (drop i s) ≡ p (getD s i 0) && every p (drop (i + 1) s)
 unfolding every
 every-from p s i h = rw (drop-cons s i 0, add-one)
 
@@ -135,7 +139,8 @@ readFrom-append v [] t = refl
 readFrom-append v (c ∷ s) t = readFrom-append (16 * v + valueOr0 c) s t
 
 -- Reading from the character at i on.
-pub readFrom-from : (v : ℕ) (s : List ℕ) (i : ℕ) → i < length s → readFrom v (drop i s) ≡ readFrom (16 * v + valueOr0 (getD s i 0)) (drop (i + 1) s)
+pub readFrom-from : (v : ℕ) (s : List ℕ) (i : ℕ) → i < length s
+    → readFrom v (drop i s) ≡ readFrom (16 * v + valueOr0 (getD s i 0)) (drop (i + 1) s)
 unfolding readFrom
 readFrom-from v s i h = rw (drop-cons s i 0, add-one)
 

@@ -38,7 +38,8 @@ cleared size entry l ys h e z =
     rw (z, k, e)
 
 -- What is given, over the first of zeroed memory.
-pub over-zeros : (size : ℕ) (xs entry : List ℕ) → length xs ≤ size → xs ++ drop (length xs) (filled size [] entry) ≡ filled size xs entry
+pub over-zeros : (size : ℕ) (xs entry : List ℕ) → length xs ≤ size
+    → xs ++ drop (length xs) (filled size [] entry) ≡ filled size xs entry
 unfolding filled zeros
 over-zeros size xs entry h =
     let k = length xs in

@@ -1,5 +1,5 @@
--- A line before it is served: its fields, and which lines are refused by their shape. Document 01, 'Frames' and 'What a refused line or
--- call gets'. A line is a list of characters, without its byte 10.
+-- A line before it is served: its fields, and which lines are refused by their shape. Document 01, 'Frames' and 'What a refused
+-- line or call gets'. A line is a list of characters, without its byte 10.
 -- Definitions only.
 use mathlib.Core.Bool.{Bool, true, false, cond, _&&_, _||_}
 use mathlib.Core.List.{List, [], _∷_, _++_}
@@ -62,11 +62,12 @@ lettersIn line = fieldsIn 1 line
 abbrev pub numbersIn : List ℕ → List ℕ
 numbersIn line = fieldsIn 2 line
 
--- What a call writes of them: all, where at least 255 places are lent, as many as a count can ask for, and the line is as long as its
--- count says; else nothing.
+-- What a call writes of them: all, where at least 255 places are lent, as many as a count can ask for, and the line is as long as
+-- its count says; else nothing.
 unfoldable pub written : ℕ → List ℕ → List ℕ → List ℕ
 written width line entry =
-    elim (leb 255 (length entry) && leb (2 * (2 + width * field line 1 1)) (length line)) [ true ↦ fieldsIn width line | false ↦ [] ]
+    elim (leb 255 (length entry) && leb (2 * (2 + width * field line 1 1)) (length line))
+    [ true ↦ fieldsIn width line | false ↦ [] ]
 
 -- The places at exit: xs, and later places as they were.
 unfoldable pub atStart : List ℕ → List ℕ → List ℕ

@@ -1,6 +1,6 @@
--- How the answers and the lent memory of the services come out, case by case. In order: a scratch too small, and one that is not; the
--- scratch with a table; a record by its word; a word by its parts; too little lent to a service with places, and enough; the chain at a
--- position; the next chain of a word.
+-- How the answers and the lent memory of the services come out, case by case. In order: a scratch too small, and one that is not;
+-- the scratch with a table; a record by its word; a word by its parts; too little lent to a service with places, and enough; the
+-- chain at a position; the next chain of a word.
 use mathlib.Core.Path.{_≡_, refl, sym, ap, _∙_}
 use mathlib.Core.Bool.{Bool, true, false, or-true}
 use mathlib.Core.List.{List, [], List·Memᴰ}
@@ -31,7 +31,8 @@ use Rattle.words.specs.declared.Written.the-variants as written
 use Rattle.words.specs.declared.Parted.{Parted}
 use Rattle.words.specs.declared.Parted.the-variants as parted
 use Rattle.counting.specs.TableCount.{TableAsked, asked-still-room}
-use Rattle.ranking.specs.Services.{Outcome, refused, gives, pick, lentScratch, tooLittle, lent, scratchLeft, pickList, placedOf, answerOf, placesLeft, judgedAs, ofRecord, ofWord, standing, after, nextOf}
+use Rattle.ranking.specs.Services.{Outcome, refused, gives, pick, lentScratch, tooLittle, lent, scratchLeft, pickList}
+use Rattle.ranking.specs.Services.{placedOf, answerOf, placesLeft, judgedAs, ofRecord, ofWord, standing, after, nextOf}
 use Rattle.ranking.specs.Outcomes.{standing-below, of-chain, of-gives, of-weighed, of-over, position-word}
 use Rattle.ranking.specs.Walks.{wordAt, WordFound, Tabled}
 use Rattle.ranking.specs.declared.Placed.the-variants as placed

@@ -26,7 +26,8 @@ use Rattle.words.specs.Answers.{sized, weighedOf}
 use Rattle.words.specs.declared.Weighed.the-variants.{Number, Over}
 use Rattle.words.specs.declared.Judged.{Judged}
 use Rattle.words.specs.declared.Judged.the-variants as judged
-use Rattle.ranking.specs.Services.{Outcome, refused, gives, pick, standing, atPosition, ofWord, after, nextOf, judgedAs, ofRecord}
+use Rattle.ranking.specs.Services.{Outcome, refused, gives, pick, standing, atPosition, ofWord, after, nextOf, judgedAs}
+use Rattle.ranking.specs.Services.{ofRecord}
 
 -- ---- at a position
 

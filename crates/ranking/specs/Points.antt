@@ -1,7 +1,7 @@
 -- The points of a walk over a table: a walk goes along the letters of a word of n, from the point (0, 0) up, and the next letter's
 -- index is a + b.
--- In order: a point between the first and the last; one letter more of a word. The rest at a point and what stands in the cells of a
--- table are in grid, the lists at a rest in chains.
+-- In order: a point between the first and the last; one letter more of a word. The rest at a point and what stands in the cells of
+-- a table are in grid, the lists at a rest in chains.
 use mathlib.Core.Path.{_≡_}
 use mathlib.Core.List.{[], _∷_, _++_}
 use Prim.Native.Nat.{ℕ, _+_, _^_, _≤_, _<_}

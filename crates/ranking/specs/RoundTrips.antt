@@ -22,8 +22,10 @@ use Rattle.parts.specs.Parts.{placeOf}
 use Rattle.words.specs.Conversions.{writtenOf, lettersLeft}
 use Rattle.words.specs.WordLaws.{chain-written}
 use Rattle.words.specs.declared.Written.the-variants as written
-use Rattle.ranking.specs.Services.{Outcome, refused, gives, pick, tooLittle, lent, lentScratch, answerOf, placesLeft, placedOf, atPosition, ofWord, nextOf, ofRecord}
-use Rattle.ranking.specs.Outcomes.{at-below, at-past, at-chain, at-gives, of-chain, of-gives, next-below, next-last, next-gives, record-chain, record-gives}
+use Rattle.ranking.specs.Services.{Outcome, refused, gives, pick, tooLittle, lent, lentScratch, answerOf, placesLeft}
+use Rattle.ranking.specs.Services.{placedOf, atPosition, ofWord, nextOf, ofRecord}
+use Rattle.ranking.specs.Outcomes.{at-below, at-past, at-chain, at-gives, of-chain, of-gives, next-below, next-last}
+use Rattle.ranking.specs.Outcomes.{next-gives, record-chain, record-gives}
 use Rattle.ranking.specs.declared.Placed.the-variants as placed
 use Rattle.ranking.specs.declared.Found.the-variants as found
 
@@ -171,7 +173,8 @@ record-then-position l s n i e scratch places h =
     placed-gives s (ofRecord l) n i e λ c given there.
     let (chain, numbers, f) = record-gives l n c given in
     let at : atPosition n i ≡ gives n c = rw there at (at-chain n c chain) in
-    rw (lent-enough scratch places (atPosition n i) (enough scratch places h), at, there, ← numbers, length-map c placeOf) (refl, refl)
+    rw (lent-enough scratch places (atPosition n i) (enough scratch places h), at, there, ← numbers, length-map c placeOf)
+    (refl, refl)
 
 -- What the chain at a position leaves in the places, read as a record, tells that position.
 pub position-then-record :
@@ -221,7 +224,8 @@ pub word-then-word :
 word-then-word w n i k scratch places l e first room h =
     found-gives scratch places (ofWord w) n i k e λ c given own there size.
     let (chain, word, f) = of-gives w n c given in
-    let numbers : map placeOf c ≡ l = rw (lent-enough scratch places (ofWord w) own, given, ← size, numbers-left n c places) at first in
+    let numbers : map placeOf c ≡ l =
+    rw (lent-enough scratch places (ofWord w) own, given, ← size, numbers-left n c places) at first in
     rw (← numbers, ← word) (chain-written n c chain f room h)
 
 -- Read as a record, it tells the word's number and position.

@@ -59,7 +59,8 @@ pub fn place_word(letters: &[u8], scratch: &mut [u64]) -> Placed
     Placed::At { n, position }
 }
 
-// Gives the chain at the position i of the list of n, whose table stands in the scratch; past its count it is refused with `refusal`.
+// Gives the chain at the position i of the list of n, whose table stands in the scratch; past its count it is refused with
+// `refusal`.
 pub fn give_at(
     n: u64,
     count: u64,
@@ -89,7 +90,8 @@ pub fn give_at(
 pub fn give_after(n: u64, letters: &[u8], scratch: &mut [u64], places: &mut [u16]) -> Found
     requires { ⌜ Listed n (now letters) (now scratch) × (64 ≤ length (now places)) ⌝ }
     ensures { λ r. ⌜ r ≡ answerOf (standing 11 n (countBefore (now (letters .entry)) (listOf n) + 1)) ⌝ }
-    ensures { λ _. ⌜ now (places .exit) ≡ placesLeft (standing 11 n (countBefore (now (letters .entry)) (listOf n) + 1)) (now (places .entry)) ⌝ }
+    ensures { λ _. ⌜ now (places .exit)
+        ≡ placesLeft (standing 11 n (countBefore (now (letters .entry)) (listOf n) + 1)) (now (places .entry)) ⌝ }
     ensures { λ _. ⌜ now (scratch .exit) ≡ filled scratchSize [] (now (scratch .entry)) ⌝ }
 {
     let Counted::Count(count) = counting::fill_counts(n, scratch) else {

@@ -1,5 +1,6 @@
-// The best chain of 0 to 400 under twelve limits and prices each; of a thousand 64-bit numbers, with no limit and with limits one below, at
-// and one above what the best chain needs; of numbers at the edges, with what is left in the lent memory; and with too little lent.
+// The best chain of 0 to 400 under twelve limits and prices each; of a thousand 64-bit numbers, with no limit and with limits one
+// below, at and one above what the best chain needs; of numbers at the edges, with what is left in the lent memory; and with too
+// little lent.
 //
 // A line: the position, the number of parts, the price and the part numbers, or the number of the refusal.
 use best::Chosen;
@@ -65,8 +66,8 @@ fn prices_of(i: u64) -> Prices {
     }
 }
 
-// 3 × 2^62 and its neighbour below, the last numbers, powers with their neighbours, a number of many chains; then document 01's two lines of
-// kind 02, its number 29, and 0.
+// 3 × 2^62 and its neighbour below, the last numbers, powers with their neighbours, a number of many chains; then document 01's two
+// lines of kind 02, its number 29, and 0.
 fn number_at(i: u64) -> u64 {
     match i {
         0 => 13835058055282163711,

@@ -1,6 +1,6 @@
 -- The comparison's answers in the terms of document 01: refusal 7 exactly if a word is not good; of good words earlier, later or
--- the same, as they stand in the dictionary. The definitions are in Answers; that any two words are one, or one is before the other,
--- is in the crate chains, in Order.
+-- the same, as they stand in the dictionary. The definitions are in Answers; that any two words are one, or one is before the
+-- other, is in the crate chains, in Order.
 use mathlib.Core.Path.{_≡_, refl}
 use mathlib.Core.Logic.{_↔_, _⊎_, inl, inr, ⊎-elim}
 use mathlib.Core.Bool.{Bool, true, false, cond, _&&_}

@@ -24,8 +24,8 @@ chainedTest [] = true
 chainedTest (p ∷ []) = true
 chainedTest (p ∷ q ∷ c) = (ltb (value q) (value p) && eqb (value p % value q) 0) && chainedTest (q ∷ c)
 
--- What a record gets: 8 for a number of 1,344 or more or above 64 parts, 9 for a part that is no proper multiple of the next, 10 for
--- a sum of 2^64 or more, each looked for in the whole record before the next; else the sum.
+-- What a record gets: 8 for a number of 1,344 or more or above 64 parts, 9 for a part that is no proper multiple of the next, 10
+-- for a sum of 2^64 or more, each looked for in the whole record before the next; else the sum.
 unfoldable pub judgedOf : List ℕ → Judged
 judgedOf l =
     cond (ltb 64 (length l) || beyond l) (Refused 8)

@@ -1,6 +1,6 @@
 -- Records, chains and words lead to each other, for 003's chains and for the services' own answers.
--- In order: a record written as a word, and a good word taken apart; a chain of n below 2^64, its record and its word. The answers are
--- defined in Records and Conversions.
+-- In order: a record written as a word, and a good word taken apart; a chain of n below 2^64, its record and its word. The answers
+-- are defined in Records and Conversions.
 use mathlib.Core.Path.{_≡_, refl, ap, ap₂, _∙_}
 use mathlib.Core.Bool.{true, false}
 use mathlib.Core.List.{List, [], _∷_, map}
@@ -64,7 +64,8 @@ module _ (entry : List ℕ) (room : 64 ≤ length entry) where
       × (lettersLeft l entry (writtenOf l (length entry)) ≡ filled 64 (wordOf (recordParts l)) entry)
   unfolding writtenOf lettersOf lettersLeft
   record-written l n e =
-      let told : writtenOf l (length entry) ≡ written.Letters (length (wordOf (recordParts l))) = rw (writtenOf, le-ltb (length entry) 64 room, e) refl in
+      let told : writtenOf l (length entry) ≡ written.Letters (length (wordOf (recordParts l))) =
+      rw (writtenOf, le-ltb (length entry) 64 room, e) refl in
       (told, ap (λ x. lettersLeft l entry x) told)
 
   -- A good word below 2^64 is taken apart into the numbers of its chain.

@@ -2,7 +2,8 @@
 use mathlib.Core.Path.{sym, ap, _∙_}
 use borrow.Author.Needs.{needs}
 use Rattle.counting.specs.declared.Counted.the-variants.{Count}
-use Rattle.counting.specs.TableCount.{counted-served, counted-refused, after-refused, told-count, told-refused, asked-still-room, asked-cleared}
+use Rattle.counting.specs.TableCount.{counted-served, counted-refused, after-refused, told-count, told-refused}
+use Rattle.counting.specs.TableCount.{asked-still-room, asked-cleared}
 use Rattle.counting.proofs.table_count.Statement.{statement}
 use Rattle.counting.proofs.table_count.Tie as tie
 

@@ -1,5 +1,5 @@
--- `parts::sum_of` meets its contract. The loop's invariant: the sum so far and that of the numbers that are left make the whole. Where
--- one more entry would pass the largest 64-bit number, the whole does too.
+-- `parts::sum_of` meets its contract. The loop's invariant: the sum so far and that of the numbers that are left make the whole.
+-- Where one more entry would pass the largest 64-bit number, the whole does too.
 use mathlib.Core.Path.{_≡_}
 use mathlib.Core.List.{List}
 use Prim.Native.Nat.{ℕ, suc, _+_, _-_, _^_, _≤_, _<_}

@@ -1,5 +1,5 @@
--- `give_at` meets its contract: the test against the count decides as the outcome does, and below the count the word at the position
--- is read as the chain there.
+-- `give_at` meets its contract: the test against the count decides as the outcome does, and below the count the word at the
+-- position is read as the chain there.
 use mathlib.Core.Path.{_∙_}
 use Prim.Native.Nat.{_≤_, _<_}
 use native.Mathlib.Omega.{arith}
