@@ -31,7 +31,7 @@ use Rattle.words.specs.declared.Written.the-variants as written
 use Rattle.words.specs.declared.Parted.{Parted}
 use Rattle.words.specs.declared.Parted.the-variants as parted
 use Rattle.counting.specs.TableCount.{TableAsked, asked-still-room}
-use Rattle.ranking.specs.Services.{Outcome, refused, gives, pick, lentScratch, tooLittle, lent, scratchLeft, pickList}
+use Rattle.ranking.specs.Services.{Outcome, refused, gives, lentScratch, tooLittle, lent, scratchLeft}
 use Rattle.ranking.specs.Services.{placedOf, answerOf, placesLeft, judgedAs, ofRecord, ofWord, standing, after, nextOf}
 use Rattle.ranking.specs.Outcomes.{standing-below, of-chain, of-gives, of-weighed, of-over, position-word}
 use Rattle.ranking.specs.Walks.{wordAt, WordFound, Tabled}
@@ -44,13 +44,13 @@ use Rattle.ranking.specs.declared.Placed.the-variants as placed
 
 pub scratch-little : (s : List ℕ) (o : Outcome) → length s < scratchSize
     → (placed.Refused 1 ≡ placedOf (lentScratch s o)) × (s ≡ scratchLeft (ltb (length s) scratchSize) s)
-unfolding placedOf lentScratch pick scratchLeft pickList
+unfolding placedOf lentScratch scratchLeft
 scratch-little s o h = rw (lt-ltb (length s) scratchSize h) (refl, refl)
 
 pub scratch-served : (s t : List ℕ) (o : Outcome) (r : placed.the-data) → scratchSize ≤ length s
     → r ≡ placedOf o → t ≡ filled scratchSize [] s
     → (r ≡ placedOf (lentScratch s o)) × (t ≡ scratchLeft (ltb (length s) scratchSize) s)
-unfolding lentScratch pick scratchLeft pickList
+unfolding lentScratch scratchLeft
 scratch-served s t o r h e f = rw (le-ltb (length s) scratchSize h) (e, f)
 
 -- ---- the scratch with a table
@@ -125,7 +125,7 @@ partedAs (gives n c) = parted.Chain n (length c)
 -- Where 64 places are lent, `word_parts` answers and leaves behind what reading the word has for its outcome.
 module _ (w : Word) (entry : List ℕ) (h : 64 ≤ length entry) where
   pub word-parted : partedOf w (length entry) ≡ partedAs (ofWord w)
-  unfolding partedOf ofWord pick partedAs
+  unfolding partedOf ofWord partedAs
   word-parted = go (reads true w) refl (ltb (weight w) (2 ^ 64)) refl
     where
       go : (g : Bool) → reads true w ≡ g → (f : Bool) → ltb (weight w) (2 ^ 64) ≡ f → partedOf w (length entry) ≡ partedAs (ofWord w)
@@ -134,7 +134,7 @@ module _ (w : Word) (entry : List ℕ) (h : 64 ≤ length entry) where
       go false good f fits = rw (le-ltb (length entry) 64 h, partedOf, good)
 
   pub word-left : numbersLeft w entry (partedOf w (length entry)) ≡ placesLeft (ofWord w) entry
-  unfolding ofWord pick partedAs numbersLeft placesLeft
+  unfolding ofWord partedAs numbersLeft placesLeft
   word-left = rw word-parted (go (reads true w) refl (ltb (weight w) (2 ^ 64)) refl)
     where
       go : (g : Bool) → reads true w ≡ g → (f : Bool) → ltb (weight w) (2 ^ 64) ≡ f
@@ -202,13 +202,13 @@ little-scratch s p h = rw (lt-ltb (length s) scratchSize h)
 
 pub little : (s p : List ℕ) (o : Outcome) → tooLittle s p ≡ true
     → (found.Refused 1 ≡ answerOf (lent s p o)) × ((p ≡ placesLeft (lent s p o) p) × (s ≡ scratchLeft (tooLittle s p) s))
-unfolding answerOf lent pick placesLeft scratchLeft pickList
+unfolding answerOf lent placesLeft scratchLeft
 little s p o e = rw e (refl, (refl, refl))
 
 pub enough : (s p s′ p′ : List ℕ) (o : Outcome) (r : Found) → scratchSize ≤ length s → 64 ≤ length p
     → r ≡ answerOf o → p′ ≡ placesLeft o p → s′ ≡ filled scratchSize [] s
     → (r ≡ answerOf (lent s p o)) × ((p′ ≡ placesLeft (lent s p o) p) × (s′ ≡ scratchLeft (tooLittle s p) s))
-unfolding lent pick tooLittle scratchLeft pickList
+unfolding lent tooLittle scratchLeft
 enough s p s′ p′ o r h k e f g = rw (le-ltb (length s) scratchSize h, le-ltb (length p) 64 k) (e, (f, g))
 
 -- A refusal, which leaves the places as they were.
@@ -260,7 +260,7 @@ module _ (r n i : ℕ) (h : i < count n) (f : n < 2 ^ 64) where
 -- ---- the next chain of a word
 
 pub next-bad : (w : Word) → reads true w ≡ false → nextOf (ofWord w) ≡ refused 7
-unfolding nextOf ofWord pick
+unfolding nextOf ofWord
 next-bad w e = rw e
 
 pub next-over : (w : Word) → T (reads true w) → weighedOf w ≡ Over → nextOf (ofWord w) ≡ refused 10

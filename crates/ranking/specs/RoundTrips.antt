@@ -4,7 +4,7 @@
 -- That the outcomes are 003's chains and their positions, each as the service's definition has it, is in Outcomes.
 use mathlib.Core.Path.{_≡_, refl, sym, ap, _∙_}
 use mathlib.Core.Logic.{_↔_}
-use mathlib.Core.Bool.{Bool, true, false}
+use mathlib.Core.Bool.{Bool, true, false, cond}
 use mathlib.Core.List.{List, map}
 use Prim.Native.Nat.{ℕ, _+_, _^_, _≤_, _<_}
 use native.Mathlib.Decide.{decLt}
@@ -22,7 +22,7 @@ use Rattle.parts.specs.Parts.{placeOf}
 use Rattle.words.specs.Conversions.{writtenOf, lettersLeft}
 use Rattle.words.specs.WordLaws.{chain-written}
 use Rattle.words.specs.declared.Written.the-variants as written
-use Rattle.ranking.specs.Services.{Outcome, refused, gives, pick, tooLittle, lent, lentScratch, answerOf, placesLeft}
+use Rattle.ranking.specs.Services.{Outcome, refused, gives, tooLittle, lent, lentScratch, answerOf, placesLeft}
 use Rattle.ranking.specs.Services.{placedOf, atPosition, ofWord, nextOf, ofRecord}
 use Rattle.ranking.specs.Outcomes.{at-below, at-past, at-chain, at-gives, of-chain, of-gives, next-below, next-last}
 use Rattle.ranking.specs.Outcomes.{next-gives, record-chain, record-gives}
@@ -41,19 +41,18 @@ unfolding tooLittle
 enough scratch places h = rw (le-ltb (length scratch) scratchSize (h .numbers), le-ltb (length places) 64 (h .room))
 
 lent-enough : (scratch places : List ℕ) (o : Outcome) → tooLittle scratch places ≡ false → lent scratch places o ≡ o
-unfolding lent pick
+unfolding lent
 lent-enough scratch places o e = rw e
 
 scratch-enough : (scratch : List ℕ) (o : Outcome) → scratchSize ≤ length scratch → lentScratch scratch o ≡ o
-unfolding lentScratch pick
+unfolding lentScratch
 scratch-enough scratch o h = rw (le-ltb (length scratch) scratchSize h)
 
 -- A chain is answered only where enough is lent and the service's own outcome gives one.
 pick-gives :
     (b : Bool) (o : Outcome)
-    → ((r : ℕ) → pick b (refused 1) o ≡ refused r → ⊥)
+    → ((r : ℕ) → cond b (refused 1) o ≡ refused r → ⊥)
     → (n : ℕ) × (c : List Part) × (b ≡ false) × (o ≡ gives n c)
-unfolding pick
 pick-gives true o given = absurd (given 1 refl)
 pick-gives false (refused r) given = absurd (given r refl)
 pick-gives false (gives n c) given = (n, c, refl, refl)
@@ -63,7 +62,7 @@ found-gives :
     → answerOf (lent scratch places o) ≡ found.Chain n i k
     → ((c : List Part) → o ≡ gives n c → tooLittle scratch places ≡ false → position n c ≡ i → length c ≡ k → P)
     → P
-unfolding lent answerOf pick
+unfolding lent answerOf
 found-gives scratch places o n i k e then =
     let (m, c, enough, given) =
     pick-gives (tooLittle scratch places) o (λ r f. let z : _≡_ {A = ℕ} 0 1 = cc (rw f at e) in omega arith) in
@@ -76,7 +75,7 @@ placed-gives :
     → placedOf (lentScratch scratch o) ≡ placed.At n i
     → ((c : List Part) → o ≡ gives n c → position n c ≡ i → P)
     → P
-unfolding lentScratch placedOf pick
+unfolding lentScratch placedOf
 placed-gives scratch o n i e then =
     let (m, c, enough, given) =
     pick-gives (ltb (length scratch) scratchSize) o (λ r f. let z : _≡_ {A = ℕ} 0 1 = cc (rw f at e) in omega arith) in
