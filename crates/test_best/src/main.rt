@@ -19,50 +19,50 @@ struct Prices {
     s: u16,
 }
 
-fn limits(parts: u8, a: u8, b: u8) -> Limits {
+fn at_most(parts: u8, a: u8, b: u8) -> Limits {
     Limits { parts, a, b }
 }
 
-fn prices(d: u16, t: u16, s: u16) -> Prices {
+fn priced(d: u16, t: u16, s: u16) -> Prices {
     Prices { d, t, s }
 }
 
 // Those of the small numbers, then those of the numbers at the edges, then those of the examples.
 fn limits_at(i: u64) -> Limits {
     match i {
-        0 => limits(255, 255, 255),
-        1 => limits(64, 63, 40),
-        2 => limits(3, 63, 40),
-        3 => limits(2, 5, 2),
-        4 => limits(4, 3, 40),
-        5 => limits(3, 63, 1),
-        6 => limits(1, 255, 255),
-        7 => limits(0, 0, 0),
-        8 => limits(5, 0, 40),
-        9 => limits(6, 63, 0),
-        10 => limits(255, 255, 255),
-        11 => limits(63, 63, 40),
-        12 => limits(62, 63, 40),
-        13 => limits(64, 63, 0),
-        14 => limits(63, 63, 0),
-        15 => limits(64, 0, 40),
-        16 => limits(255, 62, 40),
-        17 => limits(255, 63, 39),
-        18 => limits(2, 63, 40),
-        19 => limits(1, 63, 40),
-        20 => limits(255, 255, 255),
-        _ => limits(0, 0, 0),
+        0 => at_most(255, 255, 255),
+        1 => at_most(64, 63, 40),
+        2 => at_most(3, 63, 40),
+        3 => at_most(2, 5, 2),
+        4 => at_most(4, 3, 40),
+        5 => at_most(3, 63, 1),
+        6 => at_most(1, 255, 255),
+        7 => at_most(0, 0, 0),
+        8 => at_most(5, 0, 40),
+        9 => at_most(6, 63, 0),
+        10 => at_most(255, 255, 255),
+        11 => at_most(63, 63, 40),
+        12 => at_most(62, 63, 40),
+        13 => at_most(64, 63, 0),
+        14 => at_most(63, 63, 0),
+        15 => at_most(64, 0, 40),
+        16 => at_most(255, 62, 40),
+        17 => at_most(255, 63, 39),
+        18 => at_most(2, 63, 40),
+        19 => at_most(1, 63, 40),
+        20 => at_most(255, 255, 255),
+        _ => at_most(0, 0, 0),
     }
 }
 
 fn prices_of(i: u64) -> Prices {
     match i {
-        0 => prices(4, 7, 9),
-        1 => prices(0, 0, 0),
-        2 => prices(65535, 65535, 65535),
-        3 => prices(1, 65535, 0),
-        4 => prices(65535, 1, 3),
-        _ => prices(0, 1, 65535),
+        0 => priced(4, 7, 9),
+        1 => priced(0, 0, 0),
+        2 => priced(65535, 65535, 65535),
+        3 => priced(1, 65535, 0),
+        4 => priced(65535, 1, 3),
+        _ => priced(0, 1, 65535),
     }
 }
 
@@ -191,9 +191,9 @@ fn around(need: u64, at: u64) -> u8 {
 
 fn variant(i: u64, need: Need) -> Limits {
     match i {
-        3 => limits(255, around(need.a, need.at_a), 255),
-        4 => limits(255, 255, around(need.b, need.at_b)),
-        _ => limits(around(need.parts, i), 255, 255),
+        3 => at_most(255, around(need.a, need.at_a), 255),
+        4 => at_most(255, 255, around(need.b, need.at_b)),
+        _ => at_most(around(need.parts, i), 255, 255),
     }
 }
 
