@@ -22,7 +22,7 @@ use Rattle.chains.specs.Weight.{weight}
 use Rattle.chains.specs.BestOfAll.{costsOf, upTo, bestOf}
 use Rattle.lent.specs.Lent.{zeros, filled, cleared}
 use Rattle.grid.specs.Grid.{scratchSize}
-use Rattle.ranking.specs.Services.{Outcome, refused, gives, pick, pickList, tooLittle, lent, answerOf, placesLeft, scratchLeft, ofWord}
+use Rattle.ranking.specs.Services.{Outcome, refused, gives, tooLittle, lent, answerOf, placesLeft, scratchLeft, ofWord}
 use Rattle.ranking.specs.declared.Found.{Found}
 use Rattle.ranking.specs.declared.Found.the-variants as found
 use Rattle.best.specs.declared.Chosen.{Chosen}
@@ -45,7 +45,7 @@ Served π o s p r p′ s′ =
 
 module _ (π : Prices) (o : Outcome) (s p : List ℕ) where
   little : tooLittle s p ≡ true → Served π o s p (Refused 1) p s
-  unfolding chosenOf lent pick placesLeft scratchLeft pickList
+  unfolding chosenOf lent placesLeft scratchLeft
   little e = rw e (refl, (refl, refl))
 
   pub little-scratch : length s < scratchSize → Served π o s p (Refused 1) p s
@@ -66,11 +66,11 @@ unfolding tooLittle
 not-little s p h = rw (le-ltb (length s) scratchSize (h .numbers), le-ltb (length p) 64 (h .room))
 
 pub lent-all : (s p : List ℕ) (o : Outcome) → Enough s p → lent s p o ≡ o
-unfolding lent pick
+unfolding lent
 lent-all s p o h = rw (not-little s p h)
 
 scratch-zeroed : (s p : List ℕ) → Enough s p → scratchLeft (tooLittle s p) s ≡ filled scratchSize [] s
-unfolding scratchLeft pickList
+unfolding scratchLeft
 scratch-zeroed s p h = rw (not-little s p h)
 
 module _ (π : Prices) (n : ℕ) (lim : Limits) {s p : List ℕ} (h : Enough s p) where
@@ -87,7 +87,7 @@ module _ (π : Prices) (n : ℕ) (lim : Limits) {s p : List ℕ} (h : Enough s p
 
   module _ {letters : List ℕ} {k told : ℕ} (fits : n < 2 ^ 64) (w : WordChosen n lim π letters k told) where
     read : ofWord (take k letters) ≡ gives n (chainOf (take k letters))
-    unfolding ofWord pick
+    unfolding ofWord
     read =
         let m = best-listed (costsOf partWeight π) (lim .A) (lim .B) n (take k letters) (w .word) in
         rw (is-true (reads true (take k letters)) (m .0), m .1, lt-ltb n (2 ^ 64) fits)

@@ -20,9 +20,9 @@ use Rattle.chains.specs.Members.{rises}
 use Rattle.chains.specs.Keys.{inside, bestAt, leastKey}
 use Rattle.chains.specs.Bests.{lead, keyA, best-one, take-a, take-b, least-told}
 use Rattle.grid.specs.Grid.{scratchSize, Table}
-use Rattle.grid.specs.Rests.{below-last-row}
+use Rattle.grid.specs.Rests.{below-last-row, restAt, rest-origin, rest-right, rest-up, point-low}
 use Rattle.grid.specs.Fill.{read-free, read-after-a}
-use Rattle.ranking.specs.Points.{restAt, rest-origin, rest-right, rest-up, point-low, drop-more, take-more, take-stored}
+use Rattle.ranking.specs.Points.{drop-more, take-more, take-stored}
 use Rattle.best.specs.KeyTable.{
   noKey,
   letterBy,

@@ -1,8 +1,8 @@
 -- The best chain over all chains of n is that of the best word: document 01, 'Services and memory'; demand 3.
 --
 -- First the definitions: the costs of letters for document 01's prices, where a part counts M, and the chain that they choose
--- (`bestOf`). Then: the key of a word is M for each part of its chain, and the chain's price (`key-price`); the limits on a word; how
--- high a price can be (`price-fits`: below 2^32 for a number of 64 bits and prices of 16); the first word of least key has the
+-- (`bestOf`). Then: the key of a word is M for each part of its chain, and the chain's price (`key-price`); the limits on a word;
+-- how high a price can be (`price-fits`: below 2^32 for a number of 64 bits and prices of 16); the first word of least key has the
 -- earliest position. Last the theorems of record: a number has one best chain at most (`best-unique`); where no price reaches M,
 -- `bestOf` answers none only if no chain is within the limits (`none-fits`), and a chain only if that is the best (`best-is-best`).
 --
@@ -21,12 +21,13 @@ use lib.ListN.{length, getD, length-append, List·getD-append}
 use lib.Seq.{getD-append-seam}
 use mir.Facts.{and-yes}
 use borrow.Author.Tests.{leb-true, leb-false}
-use Rattle.chains.specs.Chains.{Part, total, ChainOf}
+use Rattle.chains.specs.Chains.{Part, ChainOf}
 use Rattle.chains.specs.Words.{Word, origin, wordOf, right, up, chainFrom, chainOf, someLeft, reads}
 use Rattle.chains.specs.Listing.{wordsAt, listOf, countBefore, position, chainAt}
 use Rattle.chains.specs.Best.{Prices, price, Limits, Within, Better, IsBest}
 use Rattle.chains.specs.Weight.{weight, total-chainOf}
 use Rattle.chains.specs.Members.{member-words, getD-member}
+use Rattle.chains.specs.Listed.{chain-listed}
 use Rattle.chains.specs.Positions.{words-position, words-at-position}
 use Rattle.chains.specs.PositionsOfChains.{at-position}
 use Rattle.chains.specs.RoundTrip.{chain-word-chain, word-reads, word-chained, word-chain-word}
@@ -169,11 +170,6 @@ price-fits n π h d t s (p ∷ c) k =
 
 -- ---- positions
 
-word-of-chain : (n : ℕ) (c : List Part) → ChainOf n c → List·Memᴰ (wordOf c) (wordsAt true n)
-word-of-chain n c h =
-    member-words true n (wordOf c) .1
-    (word-reads c, sym (total-chainOf (wordOf c)) ∙ ap total (chain-word-chain c (h .chained)) ∙ h .sums)
-
 -- The first word of least key stands before every other word of that key.
 first-position :
     (t : Word → Bool) (g : Word → ℕ) (n : ℕ) (w v : Word)
@@ -278,8 +274,9 @@ module _ (M n : ℕ) (lim : Limits) (π : Prices) (cheap : (c : List Part) → C
         → ChainOf n c
         → Within lim c
         → (length (chainOf w) < length c) ⊎ ((length (chainOf w) ≡ length c) × (price π (chainOf w) ≤ price π c))
+    unfolding listOf
     no-better c h b =
-        let l = first-no-less ends cost r (wordOf c) (word-of-chain n c h) (fits c h .0 b .1) in
+        let l = first-no-less ends cost r (wordOf c) (chain-listed n c h) (fits c h .0 b .1) in
         by-digits M (length (chainOf w)) (length c) (price π (chainOf w)) (price π c)
         (cheap (chainOf w) chain-of)
         (cheap c h)
@@ -298,7 +295,7 @@ module _ (M n : ℕ) (lim : Limits) (π : Prices) (cheap : (c : List Part) → C
     later c h b d e p =
         rw (word-chain-word w (listed .0))
         (first-position ends cost n w (wordOf c) r
-        (word-of-chain n c h)
+        (chain-listed n c h)
         (fits c h .0 b .1)
         (omega (arith, key-price M π w (listed .0), cost-chain c h, ap (λ (k : ℕ). M * k) e))
         (λ (q : wordOf c ≡ w). d (sym (chain-word-chain c (h .chained)) ∙ ap chainOf q)))
@@ -330,7 +327,7 @@ module _ (M n : ℕ) (lim : Limits) (π : Prices) (cheap : (c : List Part) → C
   Told (some c) = IsBest n lim π c
 
   told : Told (bestOf M n lim π)
-  unfolding bestOf upTo
+  unfolding bestOf upTo listOf
   told = go (bestAt (costsOf M π) (lim .A) (lim .B) true origin n) (best-found (costsOf M π) (lim .A) (lim .B) true origin n)
     where
       parts :
@@ -349,7 +346,7 @@ module _ (M n : ℕ) (lim : Limits) (π : Prices) (cheap : (c : List Part) → C
           (no-better w r c h b)
 
       go : (o : Option Word) → Found ends cost (wordsAt true n) o → Told (upTo (lim .K) o)
-      go none f = λ c h b. f (wordOf c) (word-of-chain n c h) (fits c h .0 b .1)
+      go none f = λ c h b. f (wordOf c) (chain-listed n c h) (fits c h .0 b .1)
       go (some w) r = parts w r (leb (length (chainOf w)) (lim .K)) refl
 
   -- Where the answer is none, no chain of n is within the limits.

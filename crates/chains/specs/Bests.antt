@@ -2,17 +2,16 @@
 --
 -- In this order: the choice of two words; the least of the words of a list that pass a test (`least-found`, with `FirstLeast` for
 -- what it tells); the words of a rest, and the grid; the two branches at a point, by a rise of a and by a rise of b; the best word
--- at a rest of 2 or more (`best-step`), of 0 and of 1, and outside the grid, and what is left of it after its first letter
--- (`best-tail`). Last the same for the least key, a number as a table holds it (`least-step`), and the two choices of a walk along
--- such a table (`take-a`, `take-b`).
+-- at a rest of 2 or more (`best-step`), of 0 and of 1, and outside the grid. Last the same for the least key, a number as a table
+-- holds it (`least-step`), and the two choices of a walk along such a table (`take-a`, `take-b`).
 --
 -- That the best word is the word of the best chain, for document 01's prices, is in BestOfAll.
 use mathlib.Core.Path.{_≡_, refl, sym, ap, subst, _∙_}
-use mathlib.Core.Logic.{_↔_, _≢_, _⊎_, inl, inr, ⊎-elim}
+use mathlib.Core.Logic.{_↔_, _≢_, ⊎-elim}
 use mathlib.Core.Bool.{Bool, true, false, cond, _&&_}
 use mathlib.Core.List.{List, [], _∷_, _++_, List·Memᴰ, List·Memᴰ·head, List·Memᴰ·tail, List·Memᴰ·not-nil}
 use mathlib.Core.List.{List·Memᴰ·cases-cons, List·Memᴰ·append-cases, Memᴰ·append-right}
-use mathlib.Core.Option.{Option, none, some, Option·map, Option·none-ne-some}
+use mathlib.Core.Option.{Option, none, some, Option·map}
 use Prim.Native.Nat.{ℕ, zero, suc, _+_, _/_, _%_, _≤_, _<_, min}
 use native.Mathlib.Omega.{arith}
 use lib.Dec.{T, leb, leb→le, le→leb}
@@ -46,16 +45,6 @@ module _ (g : Word → ℕ) where
       go true i false j = refl
       go false i true j = rw (i, j)
       go false i false j = rw (j, lt-leb (g u) (g w) (omega (arith, leb-false)))
-
-  earlier-one : (x y : Option Word) (w : Word) → earlier g x y ≡ some w → (x ≡ some w) ⊎ (y ≡ some w)
-  unfolding earlier
-  earlier-one none y w e = inr e
-  earlier-one (some u) none w e = inl e
-  earlier-one (some u) (some v) w e = go (leb (g u) (g v)) e
-    where
-      go : (b : Bool) → cond b (some u) (some v) ≡ some w → (some u ≡ some w) ⊎ (some v ≡ some w)
-      go true e = inl e
-      go false e = inr e
 
   -- In a list of two halves the first half wins where the keys are equal.
   least-append : (xs ys : List Word) → least g (xs ++ ys) ≡ earlier g (least g xs) (least g ys)
@@ -241,14 +230,6 @@ keyA big κ A B p m = κ .letter (m % 2) + leastKey big κ A B false (right p) (
 abbrev pub keyB : ℕ → Costs → ℕ → ℕ → Bool → Part → ℕ → ℕ
 keyB big κ A B f p m = cond (rises f (m % 3)) (κ .letter (2 + m % 3) + leastKey big κ A B true (up p) (m / 3)) big
 
-lead-some : (l : ℕ) (o : Option Word) (x : ℕ) (w : Word) → lead l o ≡ some (x ∷ w) → (l ≡ x) × (o ≡ some w)
-lead-some l none x w e = absurd (Option·none-ne-some (x ∷ w) e)
-lead-some l (some v) x w e = (cc, cc)
-
-cond-some : (b : Bool) (o : Option Word) (w : Word) → cond b o none ≡ some w → T b × (o ≡ some w)
-cond-some true o w e = (tt, e)
-cond-some false o w e = absurd (Option·none-ne-some w e)
-
 -- ---- the best word
 
 key-letter : (κ : Costs) (l : ℕ) (w : Word) → T (someLeft w) → key κ (l ∷ w) ≡ κ .letter l + key κ w
@@ -353,19 +334,6 @@ module _ (κ : Costs) (A B : ℕ) where
       go (some w) e =
           let r : FirstLeast (inGrid A B p) (key κ) (wordsAt f m) w = rw e at (best-found f p m) in
           absurd (n (inside-first A B p w (best-full f p m w h e) (r .passes)))
-
-  -- What is left of the best word after its first letter is the best word at the next point and rest.
-  pub best-tail : (f : Bool) (p : Part) (m : ℕ) → 2 ≤ m → (l : ℕ) (w : Word) → bestAt κ A B f p m ≡ some (l ∷ w)
-      → ((m % 2 ≡ l) × (bestAt κ A B false (right p) (m / 2) ≡ some w))
-      ⊎ (T (rises f (m % 3)) × (2 + m % 3 ≡ l) × (bestAt κ A B true (up p) (m / 3) ≡ some w))
-  best-tail f p m h l w e =
-      ⊎-elim
-      (λ (a : raiseA κ A B p m ≡ some (l ∷ w)). inl (lead-some (m % 2) (bestAt κ A B false (right p) (m / 2)) l w a))
-      (λ (b : raiseB κ A B f p m ≡ some (l ∷ w)).
-      let t = cond-some (rises f (m % 3)) (lead (2 + m % 3) (bestAt κ A B true (up p) (m / 3))) (l ∷ w) b in
-      let r = lead-some (2 + m % 3) (bestAt κ A B true (up p) (m / 3)) l w (t .1) in
-      inr (t .0, r .0, r .1))
-      (earlier-one (key κ) (raiseA κ A B p m) (raiseB κ A B f p m) (l ∷ w) (sym (best-step f p m h) ∙ e))
 
 -- ---- the least key
 
@@ -472,7 +440,7 @@ module _ (big : ℕ) (κ : Costs) (A B : ℕ) where
   unfolding leastKey keyOr
   least-outside f p m h n = rw (best-outside κ A B f p m h n)
 
-  -- A least key below `big` is that of the best word; where it is `big`, no best word has a key below.
+  -- A least key below `big` is that of the best word.
   pub least-told : (f : Bool) (p : Part) (m : ℕ) → leastKey big κ A B f p m < big
       → (w : Word) × (bestAt κ A B f p m ≡ some w) × (key κ w ≡ leastKey big κ A B f p m)
   unfolding leastKey keyOr
@@ -482,8 +450,3 @@ module _ (big : ℕ) (κ : Costs) (A B : ℕ) where
           → (w : Word) × (bestAt κ A B f p m ≡ some w) × (key κ w ≡ keyOr big κ (bestAt κ A B f p m))
       go none e h = absurd (omega arith)
       go (some w) e h = (w, e, rw e (omega arith))
-
-  pub least-big :
-      (f : Bool) (p : Part) (m : ℕ) → leastKey big κ A B f p m ≡ big → (w : Word) → bestAt κ A B f p m ≡ some w → big ≤ key κ w
-  unfolding leastKey keyOr
-  least-big f p m h w e = omega (arith, rw e at h)

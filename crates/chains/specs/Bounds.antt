@@ -1,6 +1,6 @@
 -- How large a chain, its word and the points of its walk can be: document 01, 'Parts and chains'.
--- In order: the letters of a word that a reader takes; the parts of a word and of a chain; the letters of a chain's word; the points of
--- the walk. A bound on letters or parts takes any power of two: with 2^64 a chain has at most 64 parts, and its word 64 letters.
+-- In order: the letters of a word that a reader takes; the parts of a word and of a chain; the letters of a chain's word; the points
+-- of the walk. A bound on letters or parts takes any power of two: with 2^64 a chain has at most 64 parts, and its word 64 letters.
 use mathlib.Core.Path.{_≡_, refl, sym, ap, _∙_}
 use mathlib.Core.Logic.{⊎-elim}
 use mathlib.Core.Bool.{Bool, true, false, _&&_}
@@ -75,14 +75,12 @@ part-total : (c : List Part) (p : Part) → List·Memᴰ p c → value p ≤ tot
 unfolding total
 part-total [] p m = absurd (List·Memᴰ·not-nil m)
 part-total (q ∷ c) p m =
-    ⊎-elim (λ (e : p ≡ q). omega (arith, ap value e)) (λ (t : List·Memᴰ p c). omega (arith, part-total c p t)) (List·Memᴰ·cases-cons m)
+    ⊎-elim (λ (e : p ≡ q). omega (arith, ap value e)) (λ (t : List·Memᴰ p c). omega (arith, part-total c p t))
+    (List·Memᴰ·cases-cons m)
 
--- So it is at most the number that the chain, or the word, stands for.
+-- So it is at most the number that the chain stands for.
 pub part-at-most : (n : ℕ) (c : List Part) (p : Part) → ChainOf n c → List·Memᴰ p c → value p ≤ n
 part-at-most n c p h m = omega (arith, part-total c p m)
-
-pub part-weight : (w : Word) (p : Part) → List·Memᴰ p (chainOf w) → value p ≤ weight w
-part-weight w p m = omega (arith, part-total (chainOf w) p m, total-chainOf w)
 
 -- ---- the letters of a chain's word
 
@@ -140,8 +138,10 @@ unfolding one-if someLeft
 weight-pos true l v h = omega (arith, letters-weight (l ∷ v) true h, two-le-pow (l ∷ v) tt)
 weight-pos false l v h = omega (arith, letters-weight (l ∷ v) false h, two-le-pow (l ∷ v) tt)
 
--- A point where a letter stands has a value of at most the number that the word stands for.
-pub point-at-most : (u : Word) (l : ℕ) (v : Word) → T (reads true (u ++ (l ∷ v))) → value (pointAfter origin u) ≤ weight (u ++ (l ∷ v))
+-- A point where a letter stands has a value of at most the number that the word stands for. So a word with one 2^a × 3^b of 2^64 or
+-- more stands for 2^64 or more: document 01, refusal 10.
+pub point-at-most : (u : Word) (l : ℕ) (v : Word)
+    → T (reads true (u ++ (l ∷ v))) → value (pointAfter origin u) ≤ weight (u ++ (l ∷ v))
 point-at-most u l v h =
     let r : (g : Bool) × T (reads g (l ∷ v)) = reads-rest u (l ∷ v) true h in
     rw weight-append

@@ -117,7 +117,8 @@ sound (fewest n k) t =
       (chainOf w, list-of-chains n w .0 m .1, eqb→eq (length (chainOf w)) k e),
       λ c h.
           rw (chain-word-chain c (h .chained))
-          at (leb→le k (length (chainOf (wordOf c))) (every-at (atLeast k) (listOf n) (and-r one all t) (wordOf c) (chain-listed n c h))),
+          at (leb→le k (length (chainOf (wordOf c)))
+          (every-at (atLeast k) (listOf n) (and-r one all t) (wordOf c) (chain-listed n c h))),
     )
 
 -- Every entry of the table holds.

@@ -1,10 +1,11 @@
 -- Proper multiples of parts, by exponents: 003, section 1.
--- First that the exponents of 2 and 3 are told by a number, by one lemma at either base; then the theorems of record: a part's value is
--- positive and names the part, and a proper multiple by value is the same as a point further up the grid.
+-- First that the exponents of 2 and 3 are told by a number, by one lemma at either base; then the theorems of record: a part's
+-- value is positive and names the part, and a proper multiple by value is the same as a point further up the grid.
 use mathlib.Core.Path.{_≡_, ap}
 use mathlib.Core.Logic.{_↔_, _≢_}
 use Prim.Native.Nat.{ℕ, zero, suc, _+_, _-_, _*_, _^_, _≤_, _<_, suc-le-suc}
-use native.Mathlib.Nat.{mul-assoc, mul-one, mul-pos, one-le-pow, pow-zero, pow-suc, eq-of-mul-eq-mul-right, mul-mul-mul-comm, mul-le-mul-right, sub-add-cancel, lt-of-not-le}
+use native.Mathlib.Nat.{mul-assoc, mul-one, mul-pos, one-le-pow, pow-zero, pow-suc, eq-of-mul-eq-mul-right, mul-mul-mul-comm}
+use native.Mathlib.Nat.{mul-le-mul-right, sub-add-cancel, lt-of-not-le}
 use native.Mathlib.Omega.{arith}
 use lib.Pow.{pow-add}
 use Rattle.chains.specs.Chains.{Part, value, ProperMultiple}

@@ -1,10 +1,9 @@
--- The list of n in terms of chains: a word stands in it exactly if it is good and stands for a chain of n, and the word of every chain
--- of n stands in it. What the list holds in terms of words is in Members; positions of chains are in PositionsOfChains.
-use mathlib.Core.Path.{_≡_}
+-- The list of n in terms of chains: a word stands in it exactly if it is good and stands for a chain of n, and the word of every
+-- chain of n stands in it. What the list holds in terms of words is in Members; positions of chains are in PositionsOfChains.
 use mathlib.Core.Logic.{_↔_, Iff·and, Iff·rfl, Iff·trans}
 use mathlib.Core.List.{List, List·Memᴰ}
 use Prim.Native.Nat.{ℕ}
-use Rattle.chains.specs.Chains.{Part, total, ChainOf}
+use Rattle.chains.specs.Chains.{Part, ChainOf}
 use Rattle.chains.specs.Words.{Word, Good, wordOf, chainOf}
 use Rattle.chains.specs.Listing.{listOf}
 use Rattle.chains.specs.Members.{list-holds}

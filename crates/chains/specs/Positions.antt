@@ -1,8 +1,8 @@
 -- Positions in the list of n: the word at a position stands there, and each word of the list stands at its position.
 -- In order: both for any list that ascends, for the list at a rest, and for the list of n (`position-word-at`, `word-at-position`);
 -- how many words of two branches stand before one of them, and which one stands at an index; from these the two walks that find a
--- word's position (`position-rise-a`, `position-rise-b`) and the word at a position (`word-rise-a`, `word-rise-b`), letter by letter.
--- That the list ascends is in Members, the same theorems of chains in PositionsOfChains.
+-- word's position (`position-rise-a`, `position-rise-b`) and the word at a position (`word-rise-a`, `word-rise-b`), letter by
+-- letter. That the list ascends is in Members, the same theorems of chains in PositionsOfChains.
 use mathlib.Core.Path.{_≡_, refl, sym, ap, ap₂, _∙_}
 use mathlib.Core.Logic.{inl, ⊎-elim}
 use mathlib.Core.Bool.{Bool, true, false}
@@ -90,8 +90,8 @@ unfolding countBefore
 count-append w [] t = omega arith
 count-append w (v ∷ s) t = omega (arith, count-append w s t)
 
--- Among the words that begin with a lower letter all stand before l ∷ w, and among those that begin with l as many as stand before w
--- among the letters that follow.
+-- Among the words that begin with a lower letter all stand before l ∷ w, and among those that begin with l as many as stand before
+-- w among the letters that follow.
 count-lower : (x l : ℕ) (w : Word) (s : List Word) → x < l → countBefore (l ∷ w) (under x s) ≡ length s
 unfolding countBefore under
 count-lower x l w [] h = refl

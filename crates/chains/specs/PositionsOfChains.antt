@@ -23,13 +23,17 @@ pub chainAt-chain : (n i : ℕ) → i < count n → ChainOf n (chainAt n i)
 unfolding chainAt
 chainAt-chain n i h = list-of-chains n (getD (listOf n) i []) .0 (listed n i h) .1
 
--- It has that position.
-pub position-at : (n i : ℕ) → i < count n → position n (chainAt n i) ≡ i
-unfolding position chainAt
-position-at n i h =
+-- Its word is the one that stands there,
+pub word-chainAt : (n i : ℕ) → i < count n → wordOf (chainAt n i) ≡ getD (listOf n) i []
+unfolding chainAt
+word-chainAt n i h =
     let w = getD (listOf n) i [] in
-    let good = list-of-chains n w .0 (listed n i h) .0 in
-    rw (word-chain-word w (readers-good w .1 good)) (position-word-at n i h)
+    word-chain-word w (readers-good w .1 (list-of-chains n w .0 (listed n i h) .0))
+
+-- and it has that position.
+pub position-at : (n i : ℕ) → i < count n → position n (chainAt n i) ≡ i
+unfolding position
+position-at n i h = rw (word-chainAt n i h) (position-word-at n i h)
 
 -- Each chain of n stands at its position.
 pub at-position : (n : ℕ) (c : List Part) → ChainOf n c → (position n c < count n) × (chainAt n (position n c) ≡ c)

@@ -1,7 +1,7 @@
 -- The rest at a point of the walk, on which the tables over the points stand.
 -- The parts met before the point (a, b) sum to less than 2^a × 3^b. So what is left there, divided by 2^a × 3^b, is the floor of
--- n / (2^a × 3^b), whichever chain of n is walked. In order: the point after some letters; a word cut in two there; the rest, of words and
--- of chains. That the letters at a rest are its remainders is in Listing and Steps.
+-- n / (2^a × 3^b), whichever chain of n is walked. In order: the point after some letters; a word cut in two there; the rest, of
+-- words and of chains. That the letters at a rest are its remainders is in Listing and Steps.
 use mathlib.Core.Path.{_≡_, refl, ap, _∙_}
 use mathlib.Core.List.{List, [], _∷_, _++_}
 use Prim.Native.Nat.{ℕ, zero, suc, _+_, _*_, _/_, _<_}
@@ -56,7 +56,8 @@ weight-below u = rw (← total-chainOf u) (met-below origin [] u (omega arith))
 pub rest-at : (u v : Word) → weight v ≡ total (chainOf (u ++ v)) / value (pointAfter origin u)
 rest-at u v =
     let p : Part = pointAfter origin u in
-    rw (total-chainOf, weight-append, add-mul-div-left (weight u) (weight v) (value-pos p), div-eq-of-lt (weight-below u)) (omega arith)
+    rw (total-chainOf, weight-append, add-mul-div-left (weight u) (weight v) (value-pos p), div-eq-of-lt (weight-below u))
+    (omega arith)
 
 -- The rest at a point of a chain's walk.
 pub rest-of : (n : ℕ) (c : List Part) (u v : Word) → ChainOf n c → wordOf c ≡ u ++ v → weight v ≡ n / value (pointAfter origin u)

@@ -1,7 +1,7 @@
 -- Chains and good words lead to each other and back: 003, section 2.2.
--- In order: from a chain to its word and back; the first reader takes the word of any parts; the parts of any word are a chain; from a
--- word to its chain and back. The walk, a word's chain and the readers are defined in Words; that the first reader takes exactly the
--- good words is in Readers.
+-- In order: from a chain to its word and back; the first reader takes the word of any parts; the parts of any word are a chain;
+-- from a word to its chain and back. The walk, a word's chain and the readers are defined in Words; that the first reader takes
+-- exactly the good words is in Readers.
 use mathlib.Core.Path.{_≡_, refl, sym, ap, _∙_}
 use mathlib.Core.Bool.{Bool, true, false, _&&_}
 use mathlib.Core.List.{List, [], _∷_, _++_, append-assoc, append-nil}
@@ -190,7 +190,8 @@ walk-on l p r (q ∷ c) w h e =
     ∙ ap (walk q c) (mark-more (path q p) l w (simp (length-append, length-replicate) (omega arith)))
 
 -- The walk to r through p, where p is a part.
-walk-part : (l : ℕ) (p r : Part) (met : List Part) (w : Word) → path p r ≡ path p p ++ (l ∷ []) → walk r (p ∷ met) w ≡ walk p met (suc l ∷ w)
+walk-part : (l : ℕ) (p r : Part) (met : List Part) (w : Word) → path p r ≡ path p p ++ (l ∷ [])
+    → walk r (p ∷ met) w ≡ walk p met (suc l ∷ w)
 unfolding walk marked
 walk-part l p r met w e = rw (e, path-self)
 
@@ -215,7 +216,8 @@ word-walk (suc (suc zero) ∷ w) f p met h k e n =
     ∙ walk-on 2 p (up p) met w k (path-up (last met) p (e t) (under p met k .1))
 word-walk (suc (suc (suc zero)) ∷ w) f p met h k e n =
     let s : path p (up p) ≡ path p p ++ (2 ∷ []) = path-up p p refl (le-refl (p .b)) in
-    word-walk w true (up p) (p ∷ met) h (chained-add p (up p) met (up-above p) k) (λ _. refl) (λ _. sym (walk-part 2 p (up p) met [] s))
+    word-walk w true (up p) (p ∷ met) h (chained-add p (up p) met (up-above p) k) (λ _. refl)
+    (λ _. sym (walk-part 2 p (up p) met [] s))
     ∙ walk-part 2 p (up p) met w s
 word-walk (suc (suc (suc (suc x))) ∷ w) f p met h k e n = absurd h
 

@@ -1,5 +1,5 @@
--- The two workhorses of the theory: the step law of the list, with no count of steps in it, and induction from m / 2 and m / 3 to m.
--- Nothing after them looks at how `wordsAt` counts its steps.
+-- The two laws that the theory rests on: the step law of the list, with no count of steps in it, and induction from m / 2 and m / 3
+-- to m. Nothing after them looks at how `wordsAt` counts its steps.
 use mathlib.Core.Path.{_≡_, refl, ap₂}
 use mathlib.Core.Bool.{Bool, true, false}
 use mathlib.Core.List.{List}

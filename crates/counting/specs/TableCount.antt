@@ -4,13 +4,15 @@
 -- In this order: the answer, the scratch at exit, what filling the table alone leaves; the two cases of each, as laws, with what a
 -- caller of `fill_counts` has from its answer; that the table count and the plain count agree where both serve.
 use mathlib.Core.Path.{_≡_, sym, _∙_}
-use mathlib.Core.Bool.{Bool, true, false, cond}
+use mathlib.Core.Bool.{cond}
 use mathlib.Core.List.{List, []}
 use Prim.Native.Nat.{ℕ, _≤_, _<_}
+use native.Mathlib.Decide.{decLe}
+use native.Mathlib.Nat.{lt-of-not-le}
 use native.Mathlib.Omega.{arith}
 use lib.Dec.{leb}
 use lib.ListN.{length}
-use borrow.Author.Tests.{le-leb, lt-leb, leb-true, leb-false}
+use borrow.Author.Tests.{le-leb, lt-leb}
 use borrow.Rule.Slice.PartMut.{midOf, putMid}
 use Rattle.chains.specs.Listing.{count}
 use Rattle.lent.specs.Lent.{zeros, filled, cleared}
@@ -28,10 +30,10 @@ countedOf n size = cond (leb scratchSize size) (Count (count n)) (Refused 1)
 unfoldable pub scratchAfter : List ℕ → List ℕ
 scratchAfter entry = cond (leb scratchSize (length entry)) (filled scratchSize [] entry) entry
 
--- The scratch once the table of n was asked for, where r tells whether it had room: it holds the table, or nothing was touched.
-pub record TableAsked (r : Bool) (n : ℕ) (entry exit : List ℕ) : Type 0 where
-  pub there : r ≡ true → CountsIn n entry exit
-  pub untouched : r ≡ false → exit ≡ entry
+-- The scratch once the table of n was asked for: it holds the table where it had room, else nothing was touched.
+pub record TableAsked (n : ℕ) (entry exit : List ℕ) : Type 0 where
+  pub there : scratchSize ≤ length entry → CountsIn n entry exit
+  pub untouched : length entry < scratchSize → exit ≡ entry
 
 -- ---- the two cases
 
@@ -51,23 +53,32 @@ pub after-refused : (entry : List ℕ) → length entry < scratchSize → scratc
 unfolding scratchAfter
 after-refused entry h = rw (lt-leb scratchSize (length entry) h)
 
--- ---- what the answer of `fill_counts` tells, and the scratch l that it leaves
+-- ---- what an answer r of `fill_counts` tells of the scratch's size, and the scratch l that it leaves
 
-module _ {r : Bool} {n : ℕ} {entry l : List ℕ} (f : (r ≡ leb scratchSize (length entry)) × TableAsked r n entry l) where
-  pub asked-no-room : r ≡ false → length entry < scratchSize
-  asked-no-room h = leb-false scratchSize (length entry) (sym (f .0) ∙ h)
+module _ {r : Counted} (n size : ℕ) (e : r ≡ countedOf n size) where
+  pub told-count : {k : ℕ} → r ≡ Count k → (scratchSize ≤ size) × (k ≡ count n)
+  told-count {k} f = go (decLe scratchSize size)
+    where
+      go : Dec (scratchSize ≤ size) → (scratchSize ≤ size) × (k ≡ count n)
+      go (yes h) = (h, cc (e, f, counted-served n size h))
+      go (no h) =
+          let z : _≡_ {A = ℕ} 0 1 = cc (e, f, counted-refused n size (omega arith)) in
+          absurd (omega arith)
 
-  pub asked-room : r ≡ true → scratchSize ≤ length entry
-  asked-room h = leb-true scratchSize (length entry) (sym (f .0) ∙ h)
+  pub told-refused : {k : ℕ} → r ≡ Refused k → size < scratchSize
+  told-refused f =
+      lt-of-not-le
+      (λ h.
+      let z : _≡_ {A = ℕ} 0 1 = cc (e, f, counted-served n size h) in
+      omega arith)
 
-  pub asked-still-room : r ≡ true → scratchSize ≤ length l
-  asked-still-room h = omega (arith, asked-room h, f .1 .there h .same)
+module _ {n : ℕ} {entry l : List ℕ} (f : TableAsked n entry l) (h : scratchSize ≤ length entry) where
+  pub asked-still-room : scratchSize ≤ length l
+  asked-still-room = omega (arith, f .there h .same)
 
   -- The first 5,248 numbers, lent on and zeroed, come back as ys.
-  pub asked-cleared : r ≡ true → (ys : List ℕ) → ys ≡ zeros (length (midOf 0 scratchSize l))
-      → putMid 0 scratchSize l ys ≡ scratchAfter entry
-  asked-cleared h ys z =
-      cleared scratchSize entry l ys (asked-still-room h) (f .1 .there h .later) z ∙ sym (after-served entry (asked-room h))
+  pub asked-cleared : (ys : List ℕ) → ys ≡ zeros (length (midOf 0 scratchSize l)) → putMid 0 scratchSize l ys ≡ scratchAfter entry
+  asked-cleared ys z = cleared scratchSize entry l ys asked-still-room (f .there h .later) z ∙ sym (after-served entry h)
 
 -- ---- both counts
 

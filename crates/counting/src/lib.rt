@@ -6,9 +6,7 @@ mod rows;
 mod six_lines;
 
 ghost use mathlib.Core.Path.{_≡_};
-ghost use lib.Dec.{leb};
 ghost use lib.ListN.{length};
-ghost use Rattle.grid.specs.Grid.{scratchSize};
 ghost use Rattle.counting.specs.PlainCount.{plainOf};
 ghost use Rattle.counting.specs.TableCount.{countedOf, scratchAfter, TableAsked};
 
@@ -28,29 +26,31 @@ pub fn plain_count(n: u64) -> Counted
     Counted::Count(six_lines::count_of(n))
 }
 
-// Fills the scratch with the table of the counts at the points of n, whatever it held; a scratch under 5,248 is not touched. Tells
-// whether the table is there.
-pub fn fill_counts(n: u64, scratch: &mut [u64]) -> bool
-    ensures { λ r. ⌜ r ≡ leb scratchSize (length (now (scratch .entry))) ⌝ }
-    ensures { λ r. ⌜ TableAsked r n (now (scratch .entry)) (now (scratch .exit)) ⌝ }
+// The count of any n, with a scratch of at least 5,248 numbers, whatever they hold; refusal 1 with a smaller one. Leaves the table
+// of the counts at the points of n in the scratch, and everything untouched where it refuses. The table has 0 where the rest is 0;
+// the number 0 has one chain, the empty one.
+pub fn fill_counts(n: u64, scratch: &mut [u64]) -> Counted
+    ensures { λ r. ⌜ r ≡ countedOf n (length (now (scratch .entry))) ⌝ }
+    ensures { λ _. ⌜ TableAsked n (now (scratch .entry)) (now (scratch .exit)) ⌝ }
 {
     if scratch.len() < 5248 {
-        return false;
+        return Counted::Refused(1);
     }
     rows::fill_rows(scratch, 0, n);
-    true
+    if n == 0 {
+        return Counted::Count(1);
+    }
+    Counted::Count(scratch[0])
 }
 
-// The count of any n, with a scratch of at least 5,248 numbers, whatever they hold; refusal 1 with a smaller one. Leaves the first
-// 5,248 zero, and everything untouched where it refuses.
+// The same, but with the first 5,248 numbers left zero.
 pub fn table_count(n: u64, scratch: &mut [u64]) -> Counted
     ensures { λ r. ⌜ r ≡ countedOf n (length (now (scratch .entry))) ⌝ }
     ensures { λ _. ⌜ now (scratch .exit) ≡ scratchAfter (now (scratch .entry)) ⌝ }
 {
-    if !fill_counts(n, scratch) {
+    let Counted::Count(count) = fill_counts(n, scratch) else {
         return Counted::Refused(1);
-    }
-    let counted = rows::count_in(n, scratch);
+    };
     lent::clear_u64(&mut scratch[0..5248]);
-    Counted::Count(counted)
+    Counted::Count(count)
 }

@@ -5,11 +5,9 @@
 // m >> a, its third q >> a, where m and q are the rests of the first columns of the row and of the row above. Two masks, made once
 // a row, hold the remainders by three of all its rests, so no cell is divided, and a bit of a mask makes a factor and no branch. A
 // row is 128 numbers: 64 columns of two.
-ghost use mathlib.Core.Path.{_≡_};
 ghost use Prim.Native.Nat.{_+_, _*_, _^_, _≤_, _<_};
 ghost use lib.ListN.{length};
-ghost use Rattle.chains.specs.Listing.{count};
-ghost use Rattle.grid.specs.Grid.{Table, RowAsked, RowFilled, RowsAsked, RowsFilled};
+ghost use Rattle.grid.specs.Grid.{RowAsked, RowFilled, RowsAsked, RowsFilled};
 ghost use Rattle.counting.specs.Table.{countCell, LiveAsked};
 
 // How many columns of a row are live, where m is the rest of its first column: as many as m has bits.
@@ -85,15 +83,4 @@ pub fn fill_rows(scratch: &mut [u64], b: usize, m: u64)
     fill_rows(scratch, b + 1, q);
     let at = 128 * b;
     fill_row(&mut scratch[at..], m, q);
-}
-
-// The count of n in its table, where 0 stands for an empty rest: the number 0 has one chain, the empty one.
-pub fn count_in(n: u64, scratch: &[u64]) -> u64
-    requires { ⌜ Table countCell n (now scratch) × (5248 ≤ length (now scratch)) ⌝ }
-    ensures { λ r. ⌜ r ≡ count n ⌝ }
-{
-    if n == 0 {
-        return 1;
-    }
-    scratch[0]
 }

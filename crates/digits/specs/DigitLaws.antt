@@ -1,22 +1,25 @@
 -- Theory of hexadecimal digits.
--- In order: a range of characters; one digit; a test at every character; the number that characters stand for; the digits of a number,
--- and what reading them back gives; digits in a buffer.
--- Only `value-decimal`, `value-capital`, `value-none` and `by-value` look at which characters are digits. Numbers rest on `by-value` (a
--- value is below 16) and `value-digitOf` (what is written is read back), and their laws hold whichever the digits are.
+-- In order: a range of characters; one digit; a test at every character; the number that characters stand for; the digits of a
+-- number, and what reading them back gives; digits in a buffer.
+-- Only `value-decimal`, `value-capital`, `value-none` and `by-value` look at which characters are digits. Numbers rest on
+-- `by-value` (a value is below 16) and `value-digitOf` (what is written is read back), and their laws hold whichever the digits
+-- are.
 use mathlib.Core.Path.{_≡_, refl, sym, ap, _∙_}
 use mathlib.Core.Bool.{Bool, true, false, _&&_, and-assoc, and-eq-true-iff}
-use mathlib.Core.List.{List, [], _∷_, _++_, append-nil, append-assoc}
+use mathlib.Core.List.{List, [], _∷_, _++_}
 use mathlib.Core.Option.{Option, none, some, Option·getD}
 use Prim.Native.Nat.{ℕ, zero, suc, _+_, _-_, _*_, _/_, _%_, _^_, _≤_, _<_}
-use native.Mathlib.Nat.{add-zero, add-suc, add-mul, mul-assoc, mul-le-mul-right, one-le-pow, pow-suc, pow-succ', pow-le-pow-right, div-one, div-div-eq-div-mul, mod-one, mod-eq-of-lt}
+use native.Mathlib.Nat.{add-mul, mul-assoc, mul-le-mul-right, one-le-pow, pow-suc, pow-succ', pow-le-pow-right, mod-one}
+use native.Mathlib.Nat.{mod-eq-of-lt}
 use native.Mathlib.Numerals.{add-one}
 use native.Mathlib.Omega.{arith}
-use borrow.Author.Tests.{ltb-true, ltb-false, lt-ltb, le-ltb, leb-true, leb-false, le-leb, lt-leb}
+use borrow.Author.Tests.{ltb-true, ltb-false, lt-ltb, le-ltb, leb-true, le-leb, lt-leb}
 use lib.Arith.{mod-mul}
 use lib.Dec.{leb, ltb}
-use lib.ListN.{length, getD, drop, length-append, length-drop}
+use lib.ListN.{length, getD, drop, length-append}
 use lib.Seq.{drop-cons}
-use Rattle.digits.specs.Digits.{within, digitValue, isSome, isDigit, valueOr0, digitOf, isWritten, every, allDigits, readFrom, numberOf, digitsOf, putDigits}
+use Rattle.digits.specs.Digits.{within, digitValue, isSome, isDigit, valueOr0, digitOf, isWritten, every, allDigits, readFrom}
+use Rattle.digits.specs.Digits.{numberOf, digitsOf, putDigits}
 
 -- ---- a range of characters
 
@@ -115,7 +118,8 @@ every-append p [] t = refl
 every-append p (c ∷ s) t = ap (λ (b : Bool). p c && b) (every-append p s t) ∙ sym (and-assoc (p c) (every p s) (every p t))
 
 -- The test from the character at i on.
-pub every-from : (p : ℕ → Bool) (s : List ℕ) (i : ℕ) → i < length s → every p (drop i s) ≡ p (getD s i 0) && every p (drop (i + 1) s)
+pub every-from : (p : ℕ → Bool) (s : List ℕ) (i : ℕ) → i < length s
+    → every p (drop i s) ≡ p (getD s i 0) && every p (drop (i + 1) s)
 unfolding every
 every-from p s i h = rw (drop-cons s i 0, add-one)
 
@@ -143,7 +147,8 @@ readFrom-append v [] t = refl
 readFrom-append v (c ∷ s) t = readFrom-append (16 * v + valueOr0 c) s t
 
 -- Reading from the character at i on.
-pub readFrom-from : (v : ℕ) (s : List ℕ) (i : ℕ) → i < length s → readFrom v (drop i s) ≡ readFrom (16 * v + valueOr0 (getD s i 0)) (drop (i + 1) s)
+pub readFrom-from : (v : ℕ) (s : List ℕ) (i : ℕ) → i < length s
+    → readFrom v (drop i s) ≡ readFrom (16 * v + valueOr0 (getD s i 0)) (drop (i + 1) s)
 unfolding readFrom
 readFrom-from v s i h = rw (drop-cons s i 0, add-one)
 
@@ -211,14 +216,6 @@ allDigits-digits k n = every-digits isDigit isDigit-digitOf k n
 pub written-digits : (k n : ℕ) → every isWritten (digitsOf k n) ≡ true
 written-digits k n = every-digits isWritten isWritten-digitOf k n
 
--- The digits of a number written in two pieces.
-pub digits-append : (j k n : ℕ) → digitsOf (j + k) n ≡ digitsOf j (n / 16 ^ k) ++ digitsOf k n
-unfolding digitsOf
-digits-append j zero n = rw (add-zero, div-one, append-nil)
-digits-append j (suc k) n =
-    rw (add-suc, pow-succ', ← div-div-eq-div-mul, ← append-assoc)
-    (ap (λ (s : List ℕ). s ++ (digitOf (n % 16) ∷ [])) (digits-append j k (n / 16)))
-
 -- Reading the last k digits of n back gives n modulo 16^k.
 pub number-digits : (k n : ℕ) → numberOf (digitsOf k n) ≡ n % 16 ^ k
 unfolding digitsOf numberOf readFrom
@@ -233,10 +230,6 @@ number-digits (suc k) n =
       ap (λ (x : ℕ). n % x) (pow-suc 16 k),
     )
 
--- So numbers with the same last k digits agree modulo 16^k.
-pub digits-injective : (k m n : ℕ) → digitsOf k m ≡ digitsOf k n → m % 16 ^ k ≡ n % 16 ^ k
-digits-injective k m n e = sym (number-digits k m) ∙ ap numberOf e ∙ number-digits k n
-
 -- ---- digits in a buffer
 
 pub put-room : (k n : ℕ) (out : List ℕ) → k ≤ length out → putDigits k n out ≡ digitsOf k n ++ drop k out
@@ -246,12 +239,3 @@ put-room k n out h = rw (le-leb k (length out), putDigits)
 pub put-no-room : (k n : ℕ) (out : List ℕ) → length out < k → putDigits k n out ≡ out
 unfolding putDigits
 put-no-room k n out h = rw (lt-leb k (length out), putDigits)
-
-pub length-put : (k n : ℕ) (out : List ℕ) → length (putDigits k n out) ≡ length out
-length-put k n out = go (leb k (length out)) refl
-  where
-    go : (b : Bool) → leb k (length out) ≡ b → length (putDigits k n out) ≡ length out
-    go true e =
-        let h : k ≤ length out = leb-true k (length out) e in
-        rw (put-room k n out, length-append, length-digits, length-drop) (omega arith)
-    go false e = ap length (put-no-room k n out (leb-false k (length out) e))

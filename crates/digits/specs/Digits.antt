@@ -1,5 +1,5 @@
--- Hexadecimal: document 01, 'Frames'. A character is a byte; the digits are 0 to 9 and A to F; values of several digits stand highest
--- first.
+-- Hexadecimal: document 01, 'Frames'. A character is a byte; the digits are 0 to 9 and A to F; values of several digits stand
+-- highest first.
 -- Definitions only; that digits read back give the number is in DigitLaws.
 use mathlib.Core.Bool.{Bool, true, false, _&&_, _||_}
 use mathlib.Core.List.{List, [], _∷_, _++_}
@@ -14,9 +14,11 @@ use lib.ListN.{length, drop}
 unfoldable pub within : ℕ → ℕ → ℕ → Bool
 within low high c = leb low c && leb c high
 
--- The value of a character, and none where it is no digit: '0' is 48, 'A' is 65. The one place that says which characters are digits.
+-- The value of a character, and none where it is no digit: '0' is 48, 'A' is 65. The one place that says which characters are
+-- digits.
 unfoldable pub digitValue : ℕ → Option ℕ
-digitValue c = elim (within 48 57 c) [ true ↦ some (c - 48) | false ↦ elim (within 65 70 c) [ true ↦ some (c - 55) | false ↦ none ] ]
+digitValue c =
+    elim (within 48 57 c) [ true ↦ some (c - 48) | false ↦ elim (within 65 70 c) [ true ↦ some (c - 55) | false ↦ none ] ]
 
 unfoldable pub isSome : Option ℕ → Bool
 isSome none = false

@@ -78,8 +78,8 @@ fn digit_of(n: u64) -> u8
     (55 + v) as u8
 }
 
-// Writes the last k digits of n, highest first, at the start of `out`, and leaves what stands after them. Where `out` has fewer than
-// k places, nothing is written.
+// Writes the last k digits of n, highest first, at the start of `out`, and leaves what stands after them. Where `out` has fewer
+// than k places, nothing is written.
 pub fn put_number(out: &mut [u8], k: usize, n: u64)
     ensures { λ _. ⌜ now (out .exit) ≡ putDigits k n (now (out .entry)) ⌝ }
 {

@@ -15,7 +15,7 @@ use Rattle.chains.specs.Chains.{Part}
 use Rattle.grid.specs.Grid.{scratchSize}
 use Rattle.lent.specs.Lent.{zeros, filled}
 use Rattle.parts.specs.Parts.{placeOf}
-use Rattle.ranking.specs.Services.{Outcome, refused, gives, answerOf, placesLeft, pick, tooLittle, lent, pickList, scratchLeft}
+use Rattle.ranking.specs.Services.{Outcome, refused, gives, answerOf, placesLeft, tooLittle, lent, scratchLeft}
 use Rattle.ranking.specs.RoundTrips.{numbers-left}
 use Rattle.ranking.specs.declared.Found.{Found}
 use Rattle.ranking.specs.declared.Found.the-variants as found
@@ -69,11 +69,11 @@ module _ (s p : List ℕ) (numbers : scratchSize ≤ length s) (room : length p 
 
   -- Its outcome is its own, and it zeroes the scratch.
   pub own-outcome : (o : Outcome) → lent s p o ≡ o
-  unfolding lent pick
+  unfolding lent
   own-outcome o = rw enough
 
   pub scratch-zeroed : (s′ : List ℕ) → s′ ≡ scratchLeft (tooLittle s p) s → s′ ≡ filled scratchSize [] s
-  unfolding scratchLeft pickList
+  unfolding scratchLeft
   scratch-zeroed s′ e = rw enough at e
 
 -- ---- a chain that a service gives

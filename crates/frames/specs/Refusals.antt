@@ -2,23 +2,28 @@
 --
 -- In this order: a refusal among 2 to 11, wherever there is one; the services' outcomes; the reply to a line (`reply-refusal`).
 use mathlib.Core.Path.{_≡_, subst}
-use mathlib.Core.Bool.{Bool, true, false}
+use mathlib.Core.Bool.{Bool, true, false, cond, _||_, not}
 use mathlib.Core.List.{List}
 use mathlib.Core.Option.{Option, none, some}
-use Prim.Native.Nat.{ℕ, _+_, _^_, _≤_}
+use Prim.Native.Nat.{ℕ, _+_, _*_, _^_, _≤_}
 use native.Mathlib.Omega.{arith}
-use Rattle.chains.specs.Chains.{Part}
-use Rattle.chains.specs.Words.{Word}
-use Rattle.chains.specs.Listing.{position}
+use lib.Dec.{ltb, leb, eqb}
+use lib.ListN.{length}
+use Rattle.chains.specs.Chains.{Part, total}
+use Rattle.chains.specs.Words.{Word, chainOf, reads}
+use Rattle.chains.specs.Listing.{count, position, chainAt}
 use Rattle.chains.specs.Best.{Prices, Limits}
 use Rattle.chains.specs.BestOfAll.{bestOf}
+use Rattle.chains.specs.Weight.{weight}
+use Rattle.parts.specs.Parts.{limit}
 use Rattle.words.specs.declared.Judged.{Judged}
 use Rattle.words.specs.declared.Judged.the-variants as judged
-use Rattle.words.specs.Records.{pickJudged, judgedOf}
-use Rattle.ranking.specs.Services.{Outcome, refused, gives, pick, standing, atPosition, ofWord, after, nextOf, judgedAs, ofRecord}
+use Rattle.words.specs.Records.{recordParts, beyond, chainedTest, judgedOf}
+use Rattle.ranking.specs.Services.{Outcome, refused, gives, standing, atPosition, ofWord, after, nextOf, judgedAs, ofRecord}
 use Rattle.best.specs.Chosen.{orNone, bestOutcome}
-use Rattle.lines.specs.Kinds.{Kind, counting, choosing, placing, recording, wording, following, kindOf}
-use Rattle.lines.specs.Lines.{Shape, unfit, fit, field, lettersIn, numbersIn, pickShape, shapeOfKind, shapeOf}
+use Rattle.digits.specs.Digits.{allDigits}
+use Rattle.lines.specs.Kinds.{Kind, counting, choosing, placing, recording, wording, following, kindOf, bytesIn}
+use Rattle.lines.specs.Lines.{Shape, unfit, fit, field, lettersIn, numbersIn, badLength, shapeOfKind, shapeOf}
 use Rattle.frames.specs.Replies.{Reply, refusedAs, servedWith, chainReply, pricedReply, limitsIn, pricesIn, served}
 use Rattle.frames.specs.Replies.{replyByShape, replyTo}
 
@@ -43,21 +48,6 @@ abbrev ReplyOfLines : Reply → Type 0
 ReplyOfLines (refusedAs r) = OfLines r
 ReplyOfLines (servedWith ds) = Unit {0}
 
-of-pick : (b : Bool) (x y : Outcome) → OutcomeOfLines x → OutcomeOfLines y → OutcomeOfLines (pick b x y)
-unfolding pick
-of-pick true x y h k = h
-of-pick false x y h k = k
-
-of-pick-judged : (b : Bool) (x y : Judged) → JudgedOfLines x → JudgedOfLines y → JudgedOfLines (pickJudged b x y)
-unfolding pickJudged
-of-pick-judged true x y h k = h
-of-pick-judged false x y h k = k
-
-of-pick-shape : (b : Bool) (x y : Shape) → ShapeOfLines x → ShapeOfLines y → ShapeOfLines (pickShape b x y)
-unfolding pickShape
-of-pick-shape true x y h k = h
-of-pick-shape false x y h k = k
-
 of-chain : (o : Outcome) → OutcomeOfLines o → ReplyOfLines (chainReply o)
 unfolding chainReply
 of-chain (refused r) h = h
@@ -72,7 +62,11 @@ of-priced π (gives n c) h = tt
 
 of-standing : (r n i : ℕ) → OfLines r → OutcomeOfLines (standing r n i)
 unfolding standing
-of-standing r n i h = of-pick _ _ _ h tt
+of-standing r n i h = go (leb (count n) i)
+  where
+    go : (past : Bool) → OutcomeOfLines (cond past (refused r) (gives n (chainAt n i)))
+    go true = h
+    go false = tt
 
 at-position : (n i : ℕ) → OutcomeOfLines (atPosition n i)
 unfolding atPosition
@@ -80,7 +74,12 @@ at-position n i = of-standing 6 n i (omega arith, omega arith)
 
 of-word : (w : Word) → OutcomeOfLines (ofWord w)
 unfolding ofWord
-of-word w = of-pick _ _ _ (of-pick _ _ _ tt (omega arith, omega arith)) (omega arith, omega arith)
+of-word w = go (reads true w) (ltb (weight w) (2 ^ 64))
+  where
+    go : (good fits : Bool) → OutcomeOfLines (cond good (cond fits (gives (weight w) (chainOf w)) (refused 10)) (refused 7))
+    go true true = tt
+    go true false = (omega arith, omega arith)
+    go false fits = (omega arith, omega arith)
 
 of-next : (o : Outcome) → OutcomeOfLines o → OutcomeOfLines (nextOf o)
 unfolding nextOf after
@@ -96,9 +95,14 @@ of-record : (l : List ℕ) → OutcomeOfLines (ofRecord l)
 unfolding ofRecord judgedOf
 of-record l =
     of-judged l (judgedOf l)
-    (of-pick-judged _ _ _ (omega arith, omega arith)
-    (of-pick-judged _ _ _ (omega arith, omega arith)
-    (of-pick-judged _ _ _ (omega arith, omega arith) tt)))
+    (go (ltb 64 (length l) || beyond l) (not (chainedTest (recordParts l))) (leb limit (total (recordParts l))) (total (recordParts l)))
+  where
+    go : (many loose over : Bool) (n : ℕ)
+        → JudgedOfLines (cond many (judged.Refused 8) (cond loose (judged.Refused 9) (cond over (judged.Refused 10) (judged.Sum n))))
+    go true loose over n = (omega arith, omega arith)
+    go false true over n = (omega arith, omega arith)
+    go false false true n = (omega arith, omega arith)
+    go false false false n = tt
 
 of-best : (n : ℕ) (lim : Limits) (π : Prices) → OutcomeOfLines (bestOutcome n lim π)
 unfolding bestOutcome orNone
@@ -112,13 +116,17 @@ of-best n lim π = go (bestOf (2 ^ 32) n lim π)
 
 of-shape : (line : List ℕ) → ShapeOfLines (shapeOf line)
 unfolding shapeOf shapeOfKind
-of-shape line =
-    of-pick-shape _ _ _ (omega arith, omega arith)
-    (of-pick-shape _ _ _ (go (kindOf (field line 0 1))) (omega arith, omega arith))
+of-shape line = go (badLength (length line)) (allDigits line) (kindOf (field line 0 1))
   where
-    go : (k : Option Kind) → ShapeOfLines (shapeOfKind line k)
-    go none = (omega arith, omega arith)
-    go (some k) = of-pick-shape _ _ _ tt (omega arith, omega arith)
+    of-kind : (k : Kind) (b : Bool) → ShapeOfLines (cond b (fit k) (unfit 2))
+    of-kind k true = tt
+    of-kind k false = (omega arith, omega arith)
+
+    go : (bad digits : Bool) (k : Option Kind) → ShapeOfLines (cond bad (unfit 2) (cond digits (shapeOfKind line k) (unfit 3)))
+    go true digits k = (omega arith, omega arith)
+    go false false k = (omega arith, omega arith)
+    go false true none = (omega arith, omega arith)
+    go false true (some k) = of-kind k (eqb (length line) (2 * bytesIn k (field line 1 1)))
 
 of-served : (k : Kind) (line : List ℕ) → ReplyOfLines (served k line)
 unfolding served

@@ -3,7 +3,7 @@
 --
 -- In this order: replies and their digits; the reply to a line; what a call answers and leaves behind.
 -- Definitions only. The theory is in ReplyLaws, and that the services' outcomes are 003's chains in the crates of the services.
-use mathlib.Core.Bool.{Bool, true, false, _||_}
+use mathlib.Core.Bool.{Bool, true, false, cond, _||_}
 use mathlib.Core.List.{List, map}
 use Prim.Native.Nat.{ℕ}
 use lib.Dec.{ltb}
@@ -13,7 +13,7 @@ use Rattle.chains.specs.Best.{Prices, Limits, price}
 use Rattle.parts.specs.Parts.{placeOf}
 use Rattle.grid.specs.Grid.{scratchSize}
 use Rattle.lent.specs.Lent.{filled}
-use Rattle.ranking.specs.Services.{Outcome, refused, gives, pickList, atPosition, ofWord, nextOf, ofRecord}
+use Rattle.ranking.specs.Services.{Outcome, refused, gives, atPosition, ofWord, nextOf, ofRecord}
 use Rattle.best.specs.Chosen.{limitsOf, pricesOf, bestOutcome}
 use Rattle.digits.specs.Digits.{digitsOf}
 use Rattle.lines.specs.Kinds.{Kind, counting, choosing, placing, recording, wording, following}
@@ -92,4 +92,4 @@ answerTo false line = repliedOf (replyTo line)
 
 -- The bytes for the reply at exit: untouched with refusal 1, else the reply's digits, then zeros up to 514, later bytes untouched.
 unfoldable pub outLeft : Bool → List ℕ → List ℕ → List ℕ
-outLeft little line entry = pickList little entry (filled 514 (replyOf line) entry)
+outLeft little line entry = cond little entry (filled 514 (replyOf line) entry)

@@ -14,7 +14,7 @@ use lib.Seq.{getD-set-same, getD-set-other, set-comm, drop-set-lt, getD-drop, dr
 use borrow.Rule.Slice.PartMut.{midOf, putMid, same-len-mid}
 use Rattle.lent.specs.Parts.{part-lent, part-back, kept-behind}
 use Rattle.grid.specs.Grid.{Meaning, Row, Table, RowAsked, RowFilled, RowsAsked, RowsFilled}
-use Rattle.grid.specs.Rests.{third-of-row, third-below, below-last-row}
+use Rattle.grid.specs.Rests.{third-of-row, third-below, below-last-row, restAt}
 
 -- The rows above row b can be asked for where those from b on can.
 pub rows-above : {b m : ℕ} {l : List ℕ} (k : ℕ) → RowsAsked b m l → b < 41 → k ≡ suc b → RowsAsked k (m / 3) l
@@ -155,11 +155,11 @@ module _ (G : Meaning) where
   -- ---- reading
 
   pub read-free : (n : ℕ) (l : List ℕ) (a b : ℕ) → Table G n l → a < 64 → b < 41
-      → getD l (128 * b + 2 * a) 0 ≡ G a b true (n / 3 ^ b / 2 ^ a)
+      → getD l (128 * b + 2 * a) 0 ≡ G a b true (restAt n a b)
   read-free n l a b t ha hb =
       rw (← getD-drop (128 * b) l (2 * a) 0, t .row b (omega arith) hb .free a (omega arith) ha, sub-zero)
 
   pub read-after-a : (n : ℕ) (l : List ℕ) (a b : ℕ) → Table G n l → a < 64 → b < 41
-      → getD l (128 * b + 2 * a + 1) 0 ≡ G a b false (n / 3 ^ b / 2 ^ a)
+      → getD l (128 * b + 2 * a + 1) 0 ≡ G a b false (restAt n a b)
   read-after-a n l a b t ha hb =
       rw (add-assoc, ← getD-drop (128 * b) l (2 * a + 1) 0, t .row b (omega arith) hb .after-a a (omega arith) ha, sub-zero)

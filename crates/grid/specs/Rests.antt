@@ -2,25 +2,32 @@
 -- first column has the rest m / 3, it is m / 3 / 2^a.
 --
 -- In this order: the half and the third of a rest, which stand in the next column and in the row above; the columns whose rest is
--- 0, and the last one whose rest is not; the bound on the rest of a row. The remainders by three are in Masks.
-use mathlib.Core.Path.{_≡_, _∙_}
-use Prim.Native.Nat.{ℕ, suc, _*_, _^_, _/_, _≤_, _<_}
+-- 0, and the last one whose rest is not; the bound on the rest of a row; the rest at a point, and the points where something is
+-- left. The remainders by three are in Masks.
+use mathlib.Core.Path.{_≡_, sym, _∙_}
+use Prim.Native.Nat.{ℕ, suc, _+_, _*_, _^_, _/_, _≤_, _<_}
 use native.Mathlib.Nat.{
   div-div-eq-div-mul,
   div-eq-of-lt,
   div-eq-of-lt-le,
+  le-div-iff-mul-le,
+  le-mul-of-pos-right,
+  le-trans,
   lt-of-lt-of-le,
   lt-of-not-le,
   mul-comm,
   mul-le-mul,
+  mul-le-mul-left,
   mul-le-mul-right,
+  one-le-pow,
+  pow-le-pow-left,
   pow-le-pow-right,
   pow-suc,
   pow-succ',
 }
 use native.Mathlib.Omega.{arith}
 use native.Mathlib.Numerals.{add-one}
-use lib.Pow.{shr-shr, pow-mono}
+use lib.Pow.{shr-shr, pow-add, pow-mono, pow-pos}
 
 pub half-of-rest : (m a : ℕ) → m / 2 ^ a / 2 ≡ m / 2 ^ suc a
 half-of-rest m a = shr-shr m a 1 ∙ rw add-one
@@ -47,3 +54,33 @@ third-below m b h =
 pub below-last-row : (m b : ℕ) → m * 3 ^ b < 2 ^ 64 → 2 ≤ m → b < 40
 below-last-row m b h k =
     lt-of-not-le (λ (g : 40 ≤ b). omega (arith, mul-le-mul k (pow-le-pow-right {n = 3} (omega arith) g)))
+
+-- ---- the rest at a point
+
+-- The rest at the point (a, b) of the table of n.
+abbrev pub restAt : ℕ → ℕ → ℕ → ℕ
+restAt n a b = n / 3 ^ b / 2 ^ a
+
+pub rest-origin : (n : ℕ) → restAt n 0 0 ≡ n
+rest-origin n = omega arith
+
+-- Where a rises it is halved, where b rises it is divided by three.
+pub rest-right : (n a b : ℕ) → restAt n (a + 1) b ≡ restAt n a b / 2
+rest-right n a b = rw add-one (sym (half-of-rest (n / 3 ^ b) a))
+
+pub rest-up : (n a b : ℕ) → restAt n a (b + 1) ≡ restAt n a b / 3
+rest-up n a b = rw (add-one, pow-suc, ← div-div-eq-div-mul n (3 ^ b) 3) (third-of-rest (n / 3 ^ b) a)
+
+-- A point with something left has a value of at most n.
+point-value : (n a b : ℕ) → 1 ≤ restAt n a b → 2 ^ a * 3 ^ b ≤ n
+point-value n a b h =
+    let k : 1 * 2 ^ a ≤ n / 3 ^ b = le-div-iff-mul-le (pow-pos a) .0 h in
+    le-div-iff-mul-le (one-le-pow b 3 (omega arith)) .0 (omega arith)
+
+-- So it is one of the table's.
+pub point-low : (n a b : ℕ) → n < 2 ^ 64 → 1 ≤ restAt n a b → (a + b < 64) × (b < 41)
+point-low n a b f h =
+    let v : 2 ^ a * 3 ^ b ≤ n = point-value n a b h in
+    let two : 2 ^ (a + b) ≤ n = rw pow-add (le-trans (mul-le-mul-left (2 ^ a) (pow-le-pow-left (omega arith) b)) v) in
+    let three : 3 ^ b ≤ n = le-trans (le-mul-of-pos-right (3 ^ b) (pow-pos a)) (omega arith) in
+    (lt-of-not-le (λ g. omega (arith, pow-mono g)), lt-of-not-le (λ g. omega (arith, pow-le-pow-right {n = 3} (omega arith) g)))

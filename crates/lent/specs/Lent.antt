@@ -2,12 +2,12 @@
 -- follow one rule: what the service gives, then zeros up to the size that it asks for, and everything later as it was.
 --
 -- In this order: zeros, and the rule; the length is kept; the rule where a part of that size was zeroed,
--- and where what is given was put over the zeros; a store from the back.
-use mathlib.Core.Path.{_≡_, refl, ap}
-use mathlib.Core.List.{List, [], _∷_, _++_, append-assoc}
-use Prim.Native.Nat.{ℕ, zero, suc, _+_, _-_, _≤_, _<_}
+-- and where what is given was put over the zeros.
+use mathlib.Core.Path.{_≡_, ap}
+use mathlib.Core.List.{List, [], _++_, append-assoc}
+use Prim.Native.Nat.{ℕ, _+_, _-_, _≤_}
 use native.Mathlib.Omega.{arith}
-use lib.ListN.{length, take, drop, set, replicate, length-append, length-drop, length-replicate, replicate-append-replicate}
+use lib.ListN.{length, take, drop, replicate, length-append, length-drop, length-replicate, replicate-append-replicate}
 use lib.Seq.{length-take-le, take-append-seam, drop-at}
 use borrow.Rule.Slice.PartMut.{midOf, putMid}
 
@@ -38,7 +38,8 @@ cleared size entry l ys h e z =
     rw (z, k, e)
 
 -- What is given, over the first of zeroed memory.
-pub over-zeros : (size : ℕ) (xs entry : List ℕ) → length xs ≤ size → xs ++ drop (length xs) (filled size [] entry) ≡ filled size xs entry
+pub over-zeros : (size : ℕ) (xs entry : List ℕ) → length xs ≤ size
+    → xs ++ drop (length xs) (filled size [] entry) ≡ filled size xs entry
 unfolding filled zeros
 over-zeros size xs entry h =
     let k = length xs in
@@ -51,12 +52,3 @@ over-zeros size xs entry h =
 pub filled-first : (size : ℕ) (xs entry : List ℕ) → take (length xs) (filled size xs entry) ≡ xs
 unfolding filled
 filled-first size xs entry = take-append-seam xs _
-
--- Over zeros, from the back: a store before t, which is what was stored so far and what follows it.
-pub store-back : (j x : ℕ) (t : List ℕ) → 0 < j → set (zeros j ++ t) (j - 1) x ≡ zeros (j - 1) ++ (x ∷ t)
-unfolding zeros
-store-back j x t h = go (j - 1) j (omega arith)
-  where
-    go : (i k : ℕ) → k ≡ suc i → set (replicate k 0 ++ t) i x ≡ replicate i 0 ++ (x ∷ t)
-    go zero k e = rw e
-    go (suc i) k e = rw e (ap (λ (l : List ℕ). 0 ∷ l) (go i (suc i) refl))

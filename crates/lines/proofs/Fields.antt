@@ -1,5 +1,5 @@
--- Fields of a line written into lent places from the front, one store a turn, at any width: the invariant of the loops, and its laws
--- where none is written, where one more is, and where all are.
+-- Fields of a line written into lent places from the front, one store a turn, at any width: the invariant of the loops, and its
+-- laws where none is written, where one more is, and where all are.
 use mathlib.Core.Path.{_≡_, refl, _∙_}
 use mathlib.Core.List.{List, [], _++_, append-assoc}
 use Prim.Native.Nat.{ℕ, suc, _+_, _*_, _≤_, _<_}

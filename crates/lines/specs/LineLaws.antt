@@ -15,8 +15,9 @@ use lib.ListN.{length, take, drop, getD, length-take, length-drop, drop-of-lengt
 use lib.Seq.{take-all, take-nil, drop-cons}
 use Rattle.digits.specs.Digits.{valueOr0, allDigits, numberOf, readFrom}
 use Rattle.digits.specs.DigitLaws.{number-below, number-fits}
-use Rattle.lines.specs.Kinds.{Kind, counting, choosing, placing, recording, wording, following, kindOf, byteOf, bytesIn, bytesOf}
-use Rattle.lines.specs.Lines.{field, fields, Shape, unfit, fit, pickShape, badLength, shapeOfKind, shapeOf, shapeCode, fieldsIn, written}
+use Rattle.lines.specs.Kinds.{Kind, counting, choosing, placing, recording, wording, following, kindOf, byteOf, bytesIn}
+use Rattle.lines.specs.Kinds.{bytesOf}
+use Rattle.lines.specs.Lines.{field, fields, Shape, unfit, fit, badLength, shapeOfKind, shapeOf, shapeCode, fieldsIn, written}
 use Rattle.lines.specs.declared.Shape.the-variants as answer
 
 -- ---- one field
@@ -53,7 +54,8 @@ module _ (line : List ℕ) (at j : ℕ) (e : j ≡ 2 * at) where
       rw (← e, drop-cons line j 0, drop-cons line (suc j) 0, add-one) (omega arith)
 
   pub field-pair : j + 3 < length line
-      → field line at 2 ≡ 4096 * valueOr0 (getD line j 0) + 256 * valueOr0 (getD line (j + 1) 0) + 16 * valueOr0 (getD line (j + 2) 0)
+      → field line at 2
+      ≡ 4096 * valueOr0 (getD line j 0) + 256 * valueOr0 (getD line (j + 1) 0) + 16 * valueOr0 (getD line (j + 2) 0)
       + valueOr0 (getD line (j + 3) 0)
   unfolding field numberOf readFrom
   field-pair h =
@@ -72,7 +74,8 @@ length-fields line at width zero = refl
 length-fields line at width (suc k) = ap suc (length-fields line (at + width) width k)
 
 -- One field more, at the end.
-pub fields-suc : (line : List ℕ) (at width k : ℕ) → fields line at width (suc k) ≡ fields line at width k ++ (field line (at + width * k) width ∷ [])
+pub fields-suc : (line : List ℕ) (at width k : ℕ) → fields line at width (suc k)
+    ≡ fields line at width k ++ (field line (at + width * k) width ∷ [])
 unfolding fields
 fields-suc line at width zero = rw (mul-zero, add-zero)
 fields-suc line at width (suc k) =
@@ -163,16 +166,17 @@ length-proper n e =
 -- ---- which lines are refused, and which are fit
 
 pub unfit-length : (line : List ℕ) → badLength (length line) ≡ true → shapeOf line ≡ unfit 2
-unfolding shapeOf pickShape
-unfit-length line e = rw (e, pickShape)
+unfolding shapeOf
+unfit-length line e = rw e
 
 pub unfit-character : (line : List ℕ) → Proper (length line) → allDigits line ≡ false → shapeOf line ≡ unfit 3
-unfolding shapeOf pickShape
-unfit-character line p e = rw (proper-length (length line) p, e, pickShape)
+unfolding shapeOf
+unfit-character line p e = rw (proper-length (length line) p, e)
 
-pub shape-kind : (line : List ℕ) → Proper (length line) → allDigits line ≡ true → shapeOf line ≡ shapeOfKind line (kindOf (field line 0 1))
-unfolding shapeOf pickShape
-shape-kind line p e = rw (proper-length (length line) p, e, pickShape)
+pub shape-kind : (line : List ℕ) → Proper (length line) → allDigits line ≡ true
+    → shapeOf line ≡ shapeOfKind line (kindOf (field line 0 1))
+unfolding shapeOf
+shape-kind line p e = rw (proper-length (length line) p, e)
 
 -- A line of no kind, and a line of a kind by its length.
 pub unfit-kind : (line : List ℕ) (o : Option Kind) → o ≡ none → shapeOfKind line o ≡ unfit 4
@@ -181,11 +185,11 @@ unfit-kind line o e = rw e
 
 module _ (line : List ℕ) (o : Option Kind) (k : Kind) (e : o ≡ some k) where
   pub unfit-kind-length : (length line ≡ 2 * bytesIn k (field line 1 1) → ⊥) → shapeOfKind line o ≡ unfit 2
-  unfolding shapeOfKind pickShape
+  unfolding shapeOfKind
   unfit-kind-length h = rw (e, ne-eqb (length line) (2 * bytesIn k (field line 1 1)) h)
 
   pub fit-kind-length : length line ≡ 2 * bytesIn k (field line 1 1) → shapeOfKind line o ≡ fit k
-  unfolding shapeOfKind pickShape
+  unfolding shapeOfKind
   fit-kind-length h = rw (e, eq-eqb (length line) (2 * bytesIn k (field line 1 1)) h)
 
 -- What is known of a line that is fit.
@@ -270,7 +274,8 @@ reply-515 {X} reply same line = ap (λ (s : Shape). reply s line) (shape-515 lin
 -- ---- the word and the record in a line
 
 module _ (width : ℕ) (line entry : List ℕ) where
-  pub written-all : 255 ≤ length entry → 2 * (2 + width * field line 1 1) ≤ length line → written width line entry ≡ fieldsIn width line
+  pub written-all : 255 ≤ length entry → 2 * (2 + width * field line 1 1) ≤ length line
+      → written width line entry ≡ fieldsIn width line
   unfolding written
   written-all h l = rw (le-leb 255 (length entry), le-leb (2 * (2 + width * field line 1 1)) (length line), written)
 
@@ -284,6 +289,7 @@ module _ (width : ℕ) (line entry : List ℕ) where
   written-short h l = rw (le-leb 255 (length entry), lt-leb (2 * (2 + width * field line 1 1)) (length line), written)
 
 -- Of a fit line that has as many bytes as its count asks for, all is written.
-pub written-fit : (width : ℕ) (line entry : List ℕ) (k : Kind) → Fit line k → bytesIn k (field line 1 1) ≡ 2 + width * field line 1 1
+pub written-fit : (width : ℕ) (line entry : List ℕ) (k : Kind) → Fit line k
+    → bytesIn k (field line 1 1) ≡ 2 + width * field line 1 1
     → 255 ≤ length entry → written width line entry ≡ fieldsIn width line
 written-fit width line entry k f e h = written-all width line entry h (omega (arith, f .long))

@@ -1,7 +1,7 @@
--- A line before it is served: its fields, and which lines are refused by their shape. Document 01, 'Frames' and 'What a refused line or
--- call gets'. A line is a list of characters, without its byte 10.
+-- A line before it is served: its fields, and which lines are refused by their shape. Document 01, 'Frames' and 'What a refused
+-- line or call gets'. A line is a list of characters, without its byte 10.
 -- Definitions only.
-use mathlib.Core.Bool.{Bool, true, false, _&&_, _||_}
+use mathlib.Core.Bool.{Bool, true, false, cond, _&&_, _||_}
 use mathlib.Core.List.{List, [], _∷_, _++_}
 use mathlib.Core.Option.{Option, none, some}
 use Prim.Native.Nat.{ℕ, zero, suc, _+_, _*_, _%_}
@@ -30,10 +30,6 @@ pub data Shape : Type 0 where
   unfit : ℕ → Shape
   fit : Kind → Shape
 
-unfoldable pub pickShape : Bool → Shape → Shape → Shape
-pickShape true x y = x
-pickShape false x y = y
-
 -- No characters, an odd number or above 514.
 unfoldable pub badLength : ℕ → Bool
 badLength n = eqb n 0 || (eqb (n % 2) 1 || ltb 514 n)
@@ -41,13 +37,13 @@ badLength n = eqb n 0 || (eqb (n % 2) 1 || ltb 514 n)
 -- A line of a kind, by its length.
 unfoldable pub shapeOfKind : List ℕ → Option Kind → Shape
 shapeOfKind line none = unfit 4
-shapeOfKind line (some k) = pickShape (eqb (length line) (2 * bytesIn k (field line 1 1))) (fit k) (unfit 2)
+shapeOfKind line (some k) = cond (eqb (length line) (2 * bytesIn k (field line 1 1))) (fit k) (unfit 2)
 
 -- In document 01's order: the line's length in general, 3, 4, the length of its kind.
 unfoldable pub shapeOf : List ℕ → Shape
 shapeOf line =
-    pickShape (badLength (length line)) (unfit 2)
-    (pickShape (allDigits line) (shapeOfKind line (kindOf (field line 0 1))) (unfit 3))
+    cond (badLength (length line)) (unfit 2)
+    (cond (allDigits line) (shapeOfKind line (kindOf (field line 0 1))) (unfit 3))
 
 -- The answer for a shape: the byte of its kind, or its refusal.
 unfoldable pub shapeCode : Shape → ShapeAnswer
@@ -66,11 +62,12 @@ lettersIn line = fieldsIn 1 line
 abbrev pub numbersIn : List ℕ → List ℕ
 numbersIn line = fieldsIn 2 line
 
--- What a call writes of them: all, where at least 255 places are lent, as many as a count can ask for, and the line is as long as its
--- count says; else nothing.
+-- What a call writes of them: all, where at least 255 places are lent, as many as a count can ask for, and the line is as long as
+-- its count says; else nothing.
 unfoldable pub written : ℕ → List ℕ → List ℕ → List ℕ
 written width line entry =
-    elim (leb 255 (length entry) && leb (2 * (2 + width * field line 1 1)) (length line)) [ true ↦ fieldsIn width line | false ↦ [] ]
+    elim (leb 255 (length entry) && leb (2 * (2 + width * field line 1 1)) (length line))
+    [ true ↦ fieldsIn width line | false ↦ [] ]
 
 -- The places at exit: xs, and later places as they were.
 unfoldable pub atStart : List ℕ → List ℕ → List ℕ

@@ -1,5 +1,6 @@
--- The lines of a file and the replies to them: document 01, 'Frames'. A line ends at byte 10; a last line may lack it, and nothing after
--- the last byte 10 is no line. A reply ends in byte 10 too, the last one as well. R gives the reply to a line, without its byte 10.
+-- The lines of a file and the replies to them: document 01, 'Frames'. A line ends at byte 10; a last line may lack it, and nothing
+-- after the last byte 10 is no line. A reply ends in byte 10 too, the last one as well. R gives the reply to a line, without its
+-- byte 10.
 --
 -- In this order: the lines of a file; the replies; a file read in blocks.
 -- Definitions only; that blocks make no difference is in StreamLaws.

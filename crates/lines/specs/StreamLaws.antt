@@ -185,12 +185,17 @@ module _ (R : List ℕ → List ℕ) (m : ℕ) (some-kept : 0 < m) (first : (lin
   -- ---- the blocks of a file
 
   -- What is answered after a part of a line was read: the replies to the lines from there on.
-  pub answers-from : (line : List ℕ) (blocks : List (List ℕ)) → answersTo R m (take m line) blocks ≡ repliesTo R (linesFrom line (flatten blocks))
+  pub answers-from : (line : List ℕ) (blocks : List (List ℕ))
+      → answersTo R m (take m line) blocks ≡ repliesTo R (linesFrom line (flatten blocks))
   unfolding answersTo linesFrom finished unfinished flatten
   answers-from line [] = sym (kept-last line)
   answers-from line (b ∷ blocks) =
-      rw
-      (replies-pieces R line b (flatten blocks), ← answers-from (unfinished line b) blocks, kept-finished line b, kept-unfinished line b)
+      rw (
+        replies-pieces R line b (flatten blocks),
+        ← answers-from (unfinished line b) blocks,
+        kept-finished line b,
+        kept-unfinished line b,
+      )
 
   pub answers-lines : (blocks : List (List ℕ)) → answersTo R m [] blocks ≡ repliesTo R (linesOf (flatten blocks))
   unfolding linesOf

@@ -1,5 +1,5 @@
-// A line of hexadecimal before it is served: its fields, its kind, and whether it is refused by its shape. Document 01, 'Frames' and
-// 'What a refused line or call gets'. A line is its characters, without the byte 10. Every function here takes any input.
+// A line of hexadecimal before it is served: its fields, its kind, and whether it is refused by its shape. Document 01, 'Frames'
+// and 'What a refused line or call gets'. A line is its characters, without the byte 10. Every function here takes any input.
 ghost use mathlib.Core.Path.{_≡_};
 ghost use Prim.Native.Nat.{_+_, _*_, _%_, _^_, _<_};
 ghost use lib.ListN.{length};
@@ -50,8 +50,8 @@ fn wide(x: u8) -> usize
     x as usize
 }
 
-// How many bytes a line of a kind has, and 0 where there is no such kind; `count` is the line's second byte. The one place of the code
-// that says which kinds there are.
+// How many bytes a line of a kind has, and 0 where there is no such kind; `count` is the line's second byte. The one place of the
+// code that says which kinds there are.
 fn bytes_in(kind: u8, count: u8) -> usize
     ensures { λ r. ⌜ r ≡ bytesOf (kindOf kind) count ⌝ }
 {
@@ -114,8 +114,8 @@ fn pair_from(a: u8, b: u8, c: u8, d: u8) -> u16
     (4096 * digit(a) + 256 * digit(b) + 16 * digit(c) + digit(d)) as u16
 }
 
-// The letters of the word in a line: as many as its second byte says, one byte each, at the start of `letters`. How many there are is
-// told. Where fewer than 255 places are lent, or the line is shorter than its count says, 0 is told and nothing is written.
+// The letters of the word in a line: as many as its second byte says, one byte each, at the start of `letters`. How many there are
+// is told. Where fewer than 255 places are lent, or the line is shorter than its count says, 0 is told and nothing is written.
 pub fn letters_of(line: &[u8], letters: &mut [u8]) -> usize
     ensures { λ r. ⌜ r ≡ length (written 1 (now (line .entry)) (now (letters .entry))) ⌝ }
     ensures { λ _. ⌜ now (letters .exit) ≡ atStart (written 1 (now (line .entry)) (now (letters .entry))) (now (letters .entry)) ⌝ }

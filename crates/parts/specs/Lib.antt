@@ -1,5 +1,5 @@
--- The part table and part numbers. What a reader must believe, in this order: Table (the table), Parts (from a number to its part and
--- back, sums). The theory: Tests (from a test of a whole list to each entry), Numbers.
+-- The part table and part numbers. What a reader must believe, in this order: Table (the table), Parts (from a number to its part
+-- and back, sums). The theory: Tests (from a test of a whole list to each entry), Numbers.
 pub mod Table
 pub mod Parts
 pub mod Tests

@@ -1,6 +1,6 @@
--- The part table and part numbers: document 01, 'Parts and chains'. In this order: the tests of the table, each computed once over all
--- of it (count, ascent, product form, completeness); what they say of each entry, of each point and of each part; and that numbers and
--- parts lead to each other. The definitions are in Table and Parts, the laws that carry a test to each entry in Tests.
+-- The part table and part numbers: document 01, 'Parts and chains'. In this order: the tests of the table, each computed once over
+-- all of it (count, ascent, product form, completeness); what they say of each entry, of each point and of each part; and that
+-- numbers and parts lead to each other. The definitions are in Table and Parts, the laws that carry a test to each entry in Tests.
 use mathlib.Core.Path.{_≡_, refl, sym, _∙_}
 use mathlib.Core.Bool.{Bool, true, false, _&&_}
 use Prim.Native.Nat.{ℕ, _+_, _*_, _^_, _/_, _≤_, _<_}
@@ -13,9 +13,10 @@ use borrow.Author.Tests.{lt-ltb, le-ltb}
 use Rattle.chains.specs.Chains.{Part, value}
 use Rattle.chains.specs.Divides.{value-pos, value-unique}
 use Rattle.parts.specs.Table.{rows, joined, parts}
-use Rattle.parts.specs.Parts.{limit, times, partAt, placeOf, numberOf, pickNumber}
+use Rattle.parts.specs.Parts.{limit, times, partAt, placeOf, numberOf}
 use Rattle.parts.specs.declared.Number.the-variants.{At, None}
-use Rattle.parts.specs.Tests.{each, at-each, below, at-below, ascending, ascending-pair, smaller-at, in-32s, look, look-joined}
+use Rattle.parts.specs.Tests.{each, at-each, below, at-below, ascending, ascending-pair, smaller-at, in-32s, look}
+use Rattle.parts.specs.Tests.{look-joined}
 
 -- ---- the tests
 
@@ -35,8 +36,8 @@ parts-products : T (each isProduct parts)
 unfolding each isProduct times parts joined rows
 parts-products = tt
 
--- The point (a, b) is inside where 2^a × 3^b is below 2^64: 3^b has 1623 b / 1024 binary digits after the first. Right for a up to 63
--- and b up to 40, by the test below.
+-- The point (a, b) is inside where 2^a × 3^b is below 2^64: 3^b has 1623 b / 1024 binary digits after the first. Right for a up to
+-- 63 and b up to 40, by the test below.
 unfoldable pub inside : ℕ → ℕ → Bool
 inside a b = leb (a + 1623 * b / 1024) 63
 
@@ -77,7 +78,7 @@ product-at i h =
     let t : T (product && ltb v limit) = at-each isProduct parts parts-products i (omega (arith, parts-count)) in
     (eqb→eq (value (partAt i)) v (and-l product (ltb v limit) t), ltb→lt v limit (and-r product (ltb v limit) t))
 
--- An entry is the value of its part.
+-- An entry is the value of its part, and below 2^64.
 pub part-value : (i : ℕ) → i < 1344 → value (partAt i) ≡ getD parts i 0
 part-value i h = product-at i h .0
 
@@ -92,8 +93,10 @@ unfolding value
 part-bounds p h =
     let twos = one-le-pow (p .a) 2 (omega arith) in
     let threes = one-le-pow (p .b) 3 (omega arith) in (
-      lt-of-not-le (λ (l : 64 ≤ p .a). omega (arith, pow-le-pow-right {n = 2} (omega arith) l, le-mul-of-pos-right (2 ^ p .a) threes)),
-      lt-of-not-le (λ (l : 41 ≤ p .b). omega (arith, pow-le-pow-right {n = 3} (omega arith) l, le-mul-of-pos-right (3 ^ p .b) twos)),
+      lt-of-not-le
+          (λ (l : 64 ≤ p .a). omega (arith, pow-le-pow-right {n = 2} (omega arith) l, le-mul-of-pos-right (2 ^ p .a) threes)),
+      lt-of-not-le
+          (λ (l : 41 ≤ p .b). omega (arith, pow-le-pow-right {n = 3} (omega arith) l, le-mul-of-pos-right (3 ^ p .b) twos)),
     )
 
 -- What the test of a point says, outside and inside.
@@ -132,8 +135,9 @@ at-rank p h = go (inside (p .a) (p .b)) refl
 
     go : (f : Bool) → inside (p .a) (p .b) ≡ f → (at < 1344) × (getD parts at 0 ≡ value p)
     go true e =
-        let there = inside-found p (part-bounds p h .0) (part-bounds p h .1) e .1 in (
-          lt-of-not-le (λ (l : 1344 ≤ at). omega (arith, there, value-pos p, List·getD-eq-default parts 0 {n = at} (omega (arith, parts-count)))),
+        let there = inside-found p (part-bounds p h .0) (part-bounds p h .1) e .1 in
+        let past : 1344 ≤ at → getD parts at 0 ≡ 0 = λ l. List·getD-eq-default parts 0 (omega (arith, parts-count)) in (
+          lt-of-not-le (λ (l : 1344 ≤ at). omega (arith, there, value-pos p, past l)),
           there,
         )
     go false e = absurd (omega (arith, outside-over p (part-bounds p h .0) (part-bounds p h .1) e))
@@ -147,11 +151,11 @@ parts-complete p h = rw (place-rank p h) (at-rank p h)
 
 -- The answer of `number_of`.
 pub number-none : (p : Part) → (value p < limit → ⊥) → numberOf p ≡ None
-unfolding numberOf pickNumber
+unfolding numberOf
 number-none p h = rw (le-ltb (value p) limit (le-of-suc-le-suc (lt-of-not-le h)))
 
 pub number-at : (p : Part) → value p < limit → numberOf p ≡ At (placeOf p)
-unfolding numberOf pickNumber
+unfolding numberOf
 number-at p h = rw (lt-ltb (value p) limit h)
 
 -- ---- numbers and parts lead to each other

@@ -1,6 +1,6 @@
 -- Part numbers: document 01, 'Parts and chains'. A part's number is its place in the part table, from 0.
 -- Definitions only; the theory is in Numbers.
-use mathlib.Core.Bool.{Bool, true, false}
+use mathlib.Core.Bool.{true, false, cond}
 use mathlib.Core.List.{List, [], _∷_}
 use Prim.Native.Nat.{ℕ, zero, suc, _+_, _^_, _/_, _%_}
 use lib.Dec.{ltb, eqb}
@@ -41,13 +41,9 @@ smaller v (x ∷ xs) = one-if (ltb x v) + smaller v xs
 unfoldable pub placeOf : Part → ℕ
 placeOf p = smaller (value p) parts
 
-unfoldable pub pickNumber : Bool → Number → Number → Number
-pickNumber true x y = x
-pickNumber false x y = y
-
 -- The answer of `number_of`: the part's number, or none where 2^a × 3^b is 2^64 or more.
 unfoldable pub numberOf : Part → Number
-numberOf p = pickNumber (ltb (value p) limit) (At (placeOf p)) None
+numberOf p = cond (ltb (value p) limit) (At (placeOf p)) None
 
 -- ---- sums
 
@@ -56,10 +52,6 @@ unfoldable pub sumAt : List ℕ → List ℕ → ℕ
 sumAt t [] = 0
 sumAt t (i ∷ is) = getD t i 0 + sumAt t is
 
-unfoldable pub pickSum : Bool → Sum → Sum → Sum
-pickSum true x y = x
-pickSum false x y = y
-
 -- The answer of `sum_of`: a number below 2^64, or that it is larger.
 unfoldable pub sumOf : ℕ → Sum
-sumOf n = pickSum (ltb n limit) (Fits n) Over
+sumOf n = cond (ltb n limit) (Fits n) Over

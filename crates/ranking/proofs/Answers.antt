@@ -1,23 +1,21 @@
--- How the answers and the lent memory of the services come out, case by case. In order: a scratch too small, and one that is not; the
--- scratch with a table; a record by its word; a word by its parts; too little lent to a service with places, and enough; the chain at a
--- position; the next chain of a word.
+-- How the answers and the lent memory of the services come out, case by case. In order: a scratch too small, and one that is not;
+-- the scratch with a table; a record by its word; a word by its parts; too little lent to a service with places, and enough; the
+-- chain at a position; the next chain of a word.
 use mathlib.Core.Path.{_≡_, refl, sym, ap, _∙_}
-use mathlib.Core.Bool.{Bool, true, false, _||_}
+use mathlib.Core.Bool.{Bool, true, false, or-true}
 use mathlib.Core.List.{List, [], List·Memᴰ}
 use Prim.Native.Nat.{ℕ, _+_, _-_, _^_, _≤_, _<_}
 use native.Mathlib.Nat.{sub-zero}
 use native.Mathlib.Omega.{arith}
-use lib.Dec.{T, ltb, leb}
-use lib.ListN.{length, take, drop}
-use borrow.Author.Tests.{lt-ltb, le-ltb, le-leb}
+use lib.Dec.{T, ltb}
+use lib.ListN.{length, take}
+use borrow.Author.Tests.{lt-ltb, le-ltb}
 use Rattle.chains.specs.Words.{Word, wordOf, reads}
 use Rattle.chains.specs.Listing.{listOf, count, countBefore, position, chainAt}
 use Rattle.chains.specs.Weight.{weight}
-use Rattle.chains.specs.Readers.{readers-good}
-use Rattle.chains.specs.Members.{getD-member}
-use Rattle.chains.specs.Listed.{list-of-chains, chain-listed}
-use Rattle.chains.specs.PositionsOfChains.{chainAt-chain, position-at}
-use Rattle.chains.specs.RoundTrip.{word-reads, word-chain-word}
+use Rattle.chains.specs.Listed.{chain-listed}
+use Rattle.chains.specs.PositionsOfChains.{chainAt-chain, word-chainAt, position-at}
+use Rattle.chains.specs.RoundTrip.{word-reads}
 use Rattle.chains.specs.Bounds.{word-bound}
 use Rattle.chains.specs.Chains.{Part}
 use Rattle.lent.specs.Lent.{filled, filled-first}
@@ -32,9 +30,9 @@ use Rattle.words.specs.declared.Judged.the-variants as judged
 use Rattle.words.specs.declared.Written.the-variants as written
 use Rattle.words.specs.declared.Parted.{Parted}
 use Rattle.words.specs.declared.Parted.the-variants as parted
-use Rattle.counting.specs.Table.{CountsIn}
-use Rattle.counting.specs.TableCount.{TableAsked}
-use Rattle.ranking.specs.Services.{Outcome, refused, gives, pick, lentScratch, tooLittle, lent, scratchLeft, pickList, placedOf, answerOf, placesLeft, judgedAs, ofRecord, ofWord, standing, after, nextOf}
+use Rattle.counting.specs.TableCount.{TableAsked, asked-still-room}
+use Rattle.ranking.specs.Services.{Outcome, refused, gives, lentScratch, tooLittle, lent, scratchLeft}
+use Rattle.ranking.specs.Services.{placedOf, answerOf, placesLeft, judgedAs, ofRecord, ofWord, standing, after, nextOf}
 use Rattle.ranking.specs.Outcomes.{standing-below, of-chain, of-gives, of-weighed, of-over, position-word}
 use Rattle.ranking.specs.Walks.{wordAt, WordFound, Tabled}
 use Rattle.ranking.specs.declared.Placed.the-variants as placed
@@ -46,32 +44,25 @@ use Rattle.ranking.specs.declared.Placed.the-variants as placed
 
 pub scratch-little : (s : List ℕ) (o : Outcome) → length s < scratchSize
     → (placed.Refused 1 ≡ placedOf (lentScratch s o)) × (s ≡ scratchLeft (ltb (length s) scratchSize) s)
-unfolding placedOf lentScratch pick scratchLeft pickList
+unfolding placedOf lentScratch scratchLeft
 scratch-little s o h = rw (lt-ltb (length s) scratchSize h) (refl, refl)
 
 pub scratch-served : (s t : List ℕ) (o : Outcome) (r : placed.the-data) → scratchSize ≤ length s
     → r ≡ placedOf o → t ≡ filled scratchSize [] s
     → (r ≡ placedOf (lentScratch s o)) × (t ≡ scratchLeft (ltb (length s) scratchSize) s)
-unfolding lentScratch pick scratchLeft pickList
+unfolding lentScratch scratchLeft
 scratch-served s t o r h e f = rw (le-ltb (length s) scratchSize h) (e, f)
 
 -- ---- the scratch with a table
 
--- Where the scratch has room, the table is there, and what stands behind it is as it was.
-pub filled-counts :
-    {r : Bool} {n : ℕ} {entry l : List ℕ}
-    → (r ≡ leb scratchSize (length entry)) × TableAsked r n entry l
-    → scratchSize ≤ length entry
-    → CountsIn n entry l
-filled-counts {entry} f h = f .1 .there (f .0 ∙ le-leb scratchSize (length entry) h)
+-- Where the scratch has room, the table is there, and zeroing it leaves what zeroing it at entry would.
+module _ {n : ℕ} {entry l : List ℕ} (f : TableAsked n entry l) (h : scratchSize ≤ length entry) where
+  pub filled-table : Tabled n l
+  filled-table = record { size = asked-still-room f h; table = f .there h .rows }
 
-pub filled-table : {n : ℕ} {entry l : List ℕ} → CountsIn n entry l → scratchSize ≤ length entry → Tabled n l
-filled-table f h = record { size = omega (arith, f .same); table = f .rows }
-
--- Zeroing it, then, leaves what zeroing it at entry would.
-pub filled-again : (entry l : List ℕ) → drop scratchSize l ≡ drop scratchSize entry → filled scratchSize [] l ≡ filled scratchSize [] entry
-unfolding filled
-filled-again entry l e = rw e
+  pub filled-again : filled scratchSize [] l ≡ filled scratchSize [] entry
+  unfolding filled
+  filled-again = rw (f .there h .later)
 
 -- ---- a record
 
@@ -134,7 +125,7 @@ partedAs (gives n c) = parted.Chain n (length c)
 -- Where 64 places are lent, `word_parts` answers and leaves behind what reading the word has for its outcome.
 module _ (w : Word) (entry : List ℕ) (h : 64 ≤ length entry) where
   pub word-parted : partedOf w (length entry) ≡ partedAs (ofWord w)
-  unfolding partedOf ofWord pick partedAs
+  unfolding partedOf ofWord partedAs
   word-parted = go (reads true w) refl (ltb (weight w) (2 ^ 64)) refl
     where
       go : (g : Bool) → reads true w ≡ g → (f : Bool) → ltb (weight w) (2 ^ 64) ≡ f → partedOf w (length entry) ≡ partedAs (ofWord w)
@@ -143,7 +134,7 @@ module _ (w : Word) (entry : List ℕ) (h : 64 ≤ length entry) where
       go false good f fits = rw (le-ltb (length entry) 64 h, partedOf, good)
 
   pub word-left : numbersLeft w entry (partedOf w (length entry)) ≡ placesLeft (ofWord w) entry
-  unfolding ofWord pick partedAs numbersLeft placesLeft
+  unfolding ofWord partedAs numbersLeft placesLeft
   word-left = rw word-parted (go (reads true w) refl (ltb (weight w) (2 ^ 64)) refl)
     where
       go : (g : Bool) → reads true w ≡ g → (f : Bool) → ltb (weight w) (2 ^ 64) ≡ f
@@ -203,11 +194,7 @@ word-over w h e = rw (of-over w h e)
 
 pub little-places : (s p : List ℕ) → length p < 64 → tooLittle s p ≡ true
 unfolding tooLittle
-little-places s p h = rw (lt-ltb (length p) 64 h) (or-true (ltb (length s) scratchSize))
-  where
-    or-true : (b : Bool) → (b || true) ≡ true
-    or-true true = refl
-    or-true false = refl
+little-places s p h = rw (lt-ltb (length p) 64 h, or-true)
 
 pub little-scratch : (s p : List ℕ) → length s < scratchSize → tooLittle s p ≡ true
 unfolding tooLittle
@@ -215,13 +202,13 @@ little-scratch s p h = rw (lt-ltb (length s) scratchSize h)
 
 pub little : (s p : List ℕ) (o : Outcome) → tooLittle s p ≡ true
     → (found.Refused 1 ≡ answerOf (lent s p o)) × ((p ≡ placesLeft (lent s p o) p) × (s ≡ scratchLeft (tooLittle s p) s))
-unfolding answerOf lent pick placesLeft scratchLeft pickList
+unfolding answerOf lent placesLeft scratchLeft
 little s p o e = rw e (refl, (refl, refl))
 
 pub enough : (s p s′ p′ : List ℕ) (o : Outcome) (r : Found) → scratchSize ≤ length s → 64 ≤ length p
     → r ≡ answerOf o → p′ ≡ placesLeft o p → s′ ≡ filled scratchSize [] s
     → (r ≡ answerOf (lent s p o)) × ((p′ ≡ placesLeft (lent s p o) p) × (s′ ≡ scratchLeft (tooLittle s p) s))
-unfolding lent pick tooLittle scratchLeft pickList
+unfolding lent tooLittle scratchLeft
 enough s p s′ p′ o r h k e f g = rw (le-ltb (length s) scratchSize h, le-ltb (length p) 64 k) (e, (f, g))
 
 -- A refusal, which leaves the places as they were.
@@ -240,16 +227,10 @@ enough-refused s p s′ o r x h k e f g =
 -- ---- the chain at a position
 
 module _ (r n i : ℕ) (h : i < count n) (f : n < 2 ^ 64) where
-  word-of-chain : wordOf (chainAt n i) ≡ wordAt n i
-  unfolding chainAt count
-  word-of-chain =
-      let good = list-of-chains n (wordAt n i) .0 (getD-member (listOf n) i h) .0 in
-      word-chain-word (wordAt n i) (readers-good (wordAt n i) .1 good)
-
   -- Reading the word at a position gives the chain there.
   below-word : ofWord (wordAt n i) ≡ standing r n i
   below-word =
-      ap ofWord (sym word-of-chain) ∙ of-chain n (chainAt n i) (chainAt-chain n i h) f ∙ sym (standing-below r n i h)
+      ap ofWord (sym (word-chainAt n i h)) ∙ of-chain n (chainAt n i) (chainAt-chain n i h) f ∙ sym (standing-below r n i h)
 
   -- The word is written in the first k letters, and its parts are looked for: x is the answer of `word_parts`.
   module _ (k : ℕ) (letters entry : List ℕ) (w : WordFound n i k letters) (room : 64 ≤ length entry) (x : Parted) where
@@ -279,7 +260,7 @@ module _ (r n i : ℕ) (h : i < count n) (f : n < 2 ^ 64) where
 -- ---- the next chain of a word
 
 pub next-bad : (w : Word) → reads true w ≡ false → nextOf (ofWord w) ≡ refused 7
-unfolding nextOf ofWord pick
+unfolding nextOf ofWord
 next-bad w e = rw e
 
 pub next-over : (w : Word) → T (reads true w) → weighedOf w ≡ Over → nextOf (ofWord w) ≡ refused 10

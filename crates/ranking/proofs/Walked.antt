@@ -1,6 +1,6 @@
--- The laws by which the two walks over a count table start, go on and end. In order: what stands in the table at a point; the lists at a
--- rest of 0 and of 1, where a walk ends; the walk from a word to its position; the walk from a position to its word, and what is written
--- of it. What a walk keeps is defined in the specs, Walks; the laws of the lists are in chains, Positions.
+-- The laws by which the two walks over a count table start, go on and end. In order: what stands in the table at a point; the lists
+-- at a rest of 0 and of 1, where a walk ends; the walk from a word to its position; the walk from a position to its word, and what
+-- is written of it. What a walk keeps is defined in the specs, Walks; the laws of the lists are in chains, Positions.
 use mathlib.Core.Path.{_≡_, refl, sym, ap, _∙_}
 use mathlib.Core.Bool.{Bool, true, false}
 use mathlib.Core.List.{List, [], _∷_, _++_, List·Memᴰ, List·Memᴰ·not-nil, List·Memᴰ·eq-of-singleton}
@@ -14,13 +14,15 @@ use lib.Seq.{drop-cons}
 use Rattle.chains.specs.Words.{Word, someLeft, reads}
 use Rattle.chains.specs.Listing.{wordsIn, atRest, byThird, wordsAt, listOf, count, countBefore}
 use Rattle.chains.specs.Weight.{weight}
-use Rattle.chains.specs.Counts.{ways, count-ways, ways-at-0-free, ways-at-0-after-a, ways-at-most, ways-rem-2, count-0, count-at-most}
+use Rattle.chains.specs.Counts.{ways, count-ways, ways-at-0-free, ways-at-0-after-a, ways-at-most, ways-rem-2, count-0}
+use Rattle.chains.specs.Counts.{count-at-most}
 use Rattle.chains.specs.Members.{member-words}
 use Rattle.chains.specs.Positions.{words-at-position, word-at-position, position-rise-a, position-rise-b, word-rise-a, word-rise-b}
+use Rattle.grid.specs.Rests.{restAt, rest-origin, rest-right, rest-up, point-low}
 use Rattle.grid.specs.Fill.{read-after-a}
 use Rattle.counting.specs.Table.{countCell, cell-live}
 use Rattle.ranking.specs.Walks.{Tabled, RankWalked, wordAt, WordWalked, WordRisen, WordFound}
-use Rattle.ranking.specs.Points.{restAt, rest-origin, rest-right, rest-up, point-low, Between, between, drop-more, take-more, take-stored}
+use Rattle.ranking.specs.Points.{Between, between, drop-more, take-more, take-stored}
 
 -- ---- the table
 

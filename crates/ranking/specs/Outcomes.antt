@@ -22,20 +22,21 @@ use Rattle.parts.specs.Parts.{placeOf}
 use Rattle.words.specs.Records.{recordParts, judgedOf}
 use Rattle.words.specs.RecordLaws.{in-table, judged-sum}
 use Rattle.words.specs.WordLaws.{parts-of-places, places-of-parts, chain-judged}
-use Rattle.words.specs.Answers.{pickWeighed, sized, weighedOf}
+use Rattle.words.specs.Answers.{sized, weighedOf}
 use Rattle.words.specs.declared.Weighed.the-variants.{Number, Over}
 use Rattle.words.specs.declared.Judged.{Judged}
 use Rattle.words.specs.declared.Judged.the-variants as judged
-use Rattle.ranking.specs.Services.{Outcome, refused, gives, pick, standing, atPosition, ofWord, after, nextOf, judgedAs, ofRecord}
+use Rattle.ranking.specs.Services.{Outcome, refused, gives, standing, atPosition, ofWord, after, nextOf, judgedAs}
+use Rattle.ranking.specs.Services.{ofRecord}
 
 -- ---- at a position
 
 pub standing-below : (r n i : ℕ) → i < count n → standing r n i ≡ gives n (chainAt n i)
-unfolding standing pick
+unfolding standing
 standing-below r n i h = rw (lt-leb (count n) i h)
 
 pub standing-past : (r n i : ℕ) → count n ≤ i → standing r n i ≡ refused r
-unfolding standing pick
+unfolding standing
 standing-past r n i h = rw (le-leb (count n) i h)
 
 pub at-below : (n i : ℕ) → i < count n → atPosition n i ≡ gives n (chainAt n i)
@@ -71,7 +72,7 @@ at-gives n i m c e = go (decLt i (count n))
 
 -- Reading the word of a chain of n gives the chain.
 pub of-chain : (n : ℕ) (c : List Part) → ChainOf n c → n < 2 ^ 64 → ofWord (wordOf c) ≡ gives n c
-unfolding ofWord pick
+unfolding ofWord
 of-chain n c h f =
     let e = weight-wordOf c (h .chained) ∙ h .sums in
     rw (is-true (reads true (wordOf c)) (word-reads c), e, lt-ltb n (2 ^ 64) f, chain-word-chain c (h .chained))
@@ -82,7 +83,7 @@ word-chain w = record { chained = word-chained w; sums = total-chainOf w }
 
 -- What reading a word gives is the chain of that word.
 pub of-gives : (w : Word) (n : ℕ) (c : List Part) → ofWord w ≡ gives n c → ChainOf n c × (wordOf c ≡ w) × (n < 2 ^ 64)
-unfolding ofWord pick
+unfolding ofWord
 of-gives w n c e = go (reads true w) refl (ltb (weight w) (2 ^ 64)) refl
   where
     go : (g : Bool) → reads true w ≡ g → (f : Bool) → ltb (weight w) (2 ^ 64) ≡ f → ChainOf n c × (wordOf c ≡ w) × (n < 2 ^ 64)
@@ -106,7 +107,7 @@ of-gives w n c e = go (reads true w) refl (ltb (weight w) (2 ^ 64)) refl
 -- A good word by what it weighs.
 pub of-weighed : (w : Word) (n : ℕ) → T (reads true w) → weighedOf w ≡ Number n
     → (ofWord w ≡ gives n (chainOf w)) × List·Memᴰ w (listOf n)
-unfolding weighedOf sized pickWeighed ofWord pick listOf
+unfolding weighedOf sized ofWord listOf
 of-weighed w n h e = go (ltb (weight w) (2 ^ 64)) refl
   where
     go : (f : Bool) → ltb (weight w) (2 ^ 64) ≡ f → (ofWord w ≡ gives n (chainOf w)) × List·Memᴰ w (listOf n)
@@ -120,7 +121,7 @@ of-weighed w n h e = go (ltb (weight w) (2 ^ 64)) refl
         absurd (omega arith)
 
 pub of-over : (w : Word) → T (reads true w) → weighedOf w ≡ Over → ofWord w ≡ refused 10
-unfolding weighedOf sized pickWeighed ofWord pick
+unfolding weighedOf sized ofWord
 of-over w h e = go (ltb (weight w) (2 ^ 64)) refl
   where
     go : (f : Bool) → ltb (weight w) (2 ^ 64) ≡ f → ofWord w ≡ refused 10

@@ -4,7 +4,7 @@
 -- That the outcomes are 003's chains and their positions, each as the service's definition has it, is in Outcomes.
 use mathlib.Core.Path.{_≡_, refl, sym, ap, _∙_}
 use mathlib.Core.Logic.{_↔_}
-use mathlib.Core.Bool.{Bool, true, false}
+use mathlib.Core.Bool.{Bool, true, false, cond}
 use mathlib.Core.List.{List, map}
 use Prim.Native.Nat.{ℕ, _+_, _^_, _≤_, _<_}
 use native.Mathlib.Decide.{decLt}
@@ -22,8 +22,10 @@ use Rattle.parts.specs.Parts.{placeOf}
 use Rattle.words.specs.Conversions.{writtenOf, lettersLeft}
 use Rattle.words.specs.WordLaws.{chain-written}
 use Rattle.words.specs.declared.Written.the-variants as written
-use Rattle.ranking.specs.Services.{Outcome, refused, gives, pick, tooLittle, lent, lentScratch, answerOf, placesLeft, placedOf, atPosition, ofWord, nextOf, ofRecord}
-use Rattle.ranking.specs.Outcomes.{at-below, at-past, at-chain, at-gives, of-chain, of-gives, next-below, next-last, next-gives, record-chain, record-gives}
+use Rattle.ranking.specs.Services.{Outcome, refused, gives, tooLittle, lent, lentScratch, answerOf, placesLeft}
+use Rattle.ranking.specs.Services.{placedOf, atPosition, ofWord, nextOf, ofRecord}
+use Rattle.ranking.specs.Outcomes.{at-below, at-past, at-chain, at-gives, of-chain, of-gives, next-below, next-last}
+use Rattle.ranking.specs.Outcomes.{next-gives, record-chain, record-gives}
 use Rattle.ranking.specs.declared.Placed.the-variants as placed
 use Rattle.ranking.specs.declared.Found.the-variants as found
 
@@ -39,20 +41,21 @@ unfolding tooLittle
 enough scratch places h = rw (le-ltb (length scratch) scratchSize (h .numbers), le-ltb (length places) 64 (h .room))
 
 lent-enough : (scratch places : List ℕ) (o : Outcome) → tooLittle scratch places ≡ false → lent scratch places o ≡ o
-unfolding lent pick
+unfolding lent
 lent-enough scratch places o e = rw e
 
 scratch-enough : (scratch : List ℕ) (o : Outcome) → scratchSize ≤ length scratch → lentScratch scratch o ≡ o
-unfolding lentScratch pick
+unfolding lentScratch
 scratch-enough scratch o h = rw (le-ltb (length scratch) scratchSize h)
 
 -- A chain is answered only where enough is lent and the service's own outcome gives one.
-pick-gives : (b : Bool) (r : ℕ) (o : Outcome) (n : ℕ) (c : List Part) → pick b (refused r) o ≡ gives n c → (b ≡ false) × (o ≡ gives n c)
-unfolding pick
-pick-gives true r o n c e =
-    let z : _≡_ {A = ℕ} 0 1 = cc in
-    absurd (omega arith)
-pick-gives false r o n c e = (refl, e)
+pick-gives :
+    (b : Bool) (o : Outcome)
+    → ((r : ℕ) → cond b (refused 1) o ≡ refused r → ⊥)
+    → (n : ℕ) × (c : List Part) × (b ≡ false) × (o ≡ gives n c)
+pick-gives true o given = absurd (given 1 refl)
+pick-gives false (refused r) given = absurd (given r refl)
+pick-gives false (gives n c) given = (n, c, refl, refl)
 
 found-gives :
     {P : Type 0} (scratch places : List ℕ) (o : Outcome) (n i k : ℕ)
@@ -60,18 +63,12 @@ found-gives :
     → ((c : List Part) → o ≡ gives n c → tooLittle scratch places ≡ false → position n c ≡ i → length c ≡ k → P)
     → P
 unfolding lent answerOf
-found-gives {P} scratch places o n i k e then = go (lent scratch places o) refl
-  where
-    go : (x : Outcome) → lent scratch places o ≡ x → P
-    go (refused r) f =
-        let g = rw f at e in
-        let z : _≡_ {A = ℕ} 0 1 = cc g in
-        absurd (omega arith)
-    go (gives m c) f =
-        let g = rw f at e in
-        let number : m ≡ n = cc g in
-        let own = pick-gives (tooLittle scratch places) 1 o m c f in
-        then c (own .1 ∙ ap (λ (x : ℕ). gives x c) number) (own .0) (cc g) (cc g)
+found-gives scratch places o n i k e then =
+    let (m, c, enough, given) =
+    pick-gives (tooLittle scratch places) o (λ r f. let z : _≡_ {A = ℕ} 0 1 = cc (rw f at e) in omega arith) in
+    let g = rw (enough, given) at e in
+    let number : m ≡ n = cc g in
+    then c (given ∙ ap (λ (x : ℕ). gives x c) number) enough (cc g) (cc g)
 
 placed-gives :
     {P : Type 0} (scratch : List ℕ) (o : Outcome) (n i : ℕ)
@@ -79,18 +76,12 @@ placed-gives :
     → ((c : List Part) → o ≡ gives n c → position n c ≡ i → P)
     → P
 unfolding lentScratch placedOf
-placed-gives {P} scratch o n i e then = go (lentScratch scratch o) refl
-  where
-    go : (x : Outcome) → lentScratch scratch o ≡ x → P
-    go (refused r) f =
-        let g = rw f at e in
-        let z : _≡_ {A = ℕ} 0 1 = cc g in
-        absurd (omega arith)
-    go (gives m c) f =
-        let g = rw f at e in
-        let number : m ≡ n = cc g in
-        let own = pick-gives (ltb (length scratch) scratchSize) 1 o m c f in
-        then c (own .1 ∙ ap (λ (x : ℕ). gives x c) number) (cc g)
+placed-gives scratch o n i e then =
+    let (m, c, enough, given) =
+    pick-gives (ltb (length scratch) scratchSize) o (λ r f. let z : _≡_ {A = ℕ} 0 1 = cc (rw f at e) in omega arith) in
+    let g = rw (enough, given) at e in
+    let number : m ≡ n = cc g in
+    then c (given ∙ ap (λ (x : ℕ). gives x c) number) (cc g)
 
 -- ---- the part numbers in the places
 
@@ -181,7 +172,8 @@ record-then-position l s n i e scratch places h =
     placed-gives s (ofRecord l) n i e λ c given there.
     let (chain, numbers, f) = record-gives l n c given in
     let at : atPosition n i ≡ gives n c = rw there at (at-chain n c chain) in
-    rw (lent-enough scratch places (atPosition n i) (enough scratch places h), at, there, ← numbers, length-map c placeOf) (refl, refl)
+    rw (lent-enough scratch places (atPosition n i) (enough scratch places h), at, there, ← numbers, length-map c placeOf)
+    (refl, refl)
 
 -- What the chain at a position leaves in the places, read as a record, tells that position.
 pub position-then-record :
@@ -231,7 +223,8 @@ pub word-then-word :
 word-then-word w n i k scratch places l e first room h =
     found-gives scratch places (ofWord w) n i k e λ c given own there size.
     let (chain, word, f) = of-gives w n c given in
-    let numbers : map placeOf c ≡ l = rw (lent-enough scratch places (ofWord w) own, given, ← size, numbers-left n c places) at first in
+    let numbers : map placeOf c ≡ l =
+    rw (lent-enough scratch places (ofWord w) own, given, ← size, numbers-left n c places) at first in
     rw (← numbers, ← word) (chain-written n c chain f room h)
 
 -- Read as a record, it tells the word's number and position.

@@ -3,7 +3,7 @@
 -- Each service has an outcome: a refusal by its number, or a chain of n. What it answers, and what it leaves in the places and in
 -- the scratch, follow from the outcome alone, by one rule for all services.
 -- Definitions only. Demand 2 as theorems on these answers is in RoundTrips.
-use mathlib.Core.Bool.{Bool, true, false, _||_}
+use mathlib.Core.Bool.{Bool, true, cond, _||_}
 use mathlib.Core.List.{List, [], map}
 use Prim.Native.Nat.{ℕ, _+_, _^_}
 use lib.Dec.{ltb, leb}
@@ -30,17 +30,13 @@ pub data Outcome : Type 0 where
   refused : ℕ → Outcome
   gives : ℕ → List Part → Outcome
 
-unfoldable pub pick : Bool → Outcome → Outcome → Outcome
-pick true x y = x
-pick false x y = y
-
 -- Too little is lent: a scratch under 5,248, or fewer than 64 places.
 unfoldable pub tooLittle : List ℕ → List ℕ → Bool
 tooLittle scratch places = ltb (length scratch) scratchSize || ltb (length places) 64
 
 -- Refusal 1 first.
 unfoldable pub lent : List ℕ → List ℕ → Outcome → Outcome
-lent scratch places o = pick (tooLittle scratch places) (refused 1) o
+lent scratch places o = cond (tooLittle scratch places) (refused 1) o
 
 -- ---- what a service answers and leaves behind
 
@@ -54,19 +50,15 @@ unfoldable pub placesLeft : Outcome → List ℕ → List ℕ
 placesLeft (refused r) entry = entry
 placesLeft (gives n c) entry = filled 64 (map placeOf c) entry
 
-unfoldable pub pickList : Bool → List ℕ → List ℕ → List ℕ
-pickList true x y = x
-pickList false x y = y
-
 -- The scratch at exit: untouched with refusal 1, else its first 5,248 zero and the rest untouched.
 unfoldable pub scratchLeft : Bool → List ℕ → List ℕ
-scratchLeft little entry = pickList little entry (filled scratchSize [] entry)
+scratchLeft little entry = cond little entry (filled scratchSize [] entry)
 
 -- ---- the services
 
 -- The chain at position i of the list of n; refused with r where i is not below the count.
 unfoldable pub standing : ℕ → ℕ → ℕ → Outcome
-standing r n i = pick (leb (count n) i) (refused r) (gives n (chainAt n i))
+standing r n i = cond (leb (count n) i) (refused r) (gives n (chainAt n i))
 
 -- Chain at a position: 6 past the count.
 unfoldable pub atPosition : ℕ → ℕ → Outcome
@@ -75,8 +67,8 @@ atPosition n i = standing 6 n i
 -- Reading a word: 7 where it is not good, 10 where it stands for 2^64 or more.
 unfoldable pub ofWord : Word → Outcome
 ofWord w =
-    pick (reads true w)
-    (pick (ltb (weight w) (2 ^ 64)) (gives (weight w) (chainOf w)) (refused 10))
+    cond (reads true w)
+    (cond (ltb (weight w) (2 ^ 64)) (gives (weight w) (chainOf w)) (refused 10))
     (refused 7)
 
 -- The chain after a chain c of n: 11 where c is the last.
@@ -103,4 +95,4 @@ placedOf (refused r) = placed.Refused r
 placedOf (gives n c) = placed.At n (position n c)
 
 unfoldable pub lentScratch : List ℕ → Outcome → Outcome
-lentScratch scratch o = pick (ltb (length scratch) scratchSize) (refused 1) o
+lentScratch scratch o = cond (ltb (length scratch) scratchSize) (refused 1) o

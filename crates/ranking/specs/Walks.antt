@@ -1,7 +1,7 @@
--- What the walks over a count table, and the calls around them, ask for and keep. Only private functions cite these definitions; what
--- the services answer and leave behind is in Services.
--- In order: the table; the walk from a word to its position; the walk from a position to its word; the calls that fill, use and zero the
--- table. The laws by which a walk starts, goes on and ends are in the proofs, Walked.
+-- What the walks over a count table, and the calls around them, ask for and keep. Only private functions cite these definitions;
+-- what the services answer and leave behind is in Services.
+-- In order: the table; the walk from a word to its position; the walk from a position to its word; the calls that fill, use and
+-- zero the table. The laws by which a walk starts, goes on and ends are in the proofs, Walked.
 use mathlib.Core.Path.{_≡_}
 use mathlib.Core.Bool.{Bool, true}
 use mathlib.Core.List.{List, [], _∷_, _++_, List·Memᴰ}
@@ -12,8 +12,8 @@ use Rattle.chains.specs.Words.{Word, reads}
 use Rattle.chains.specs.Listing.{wordsAt, listOf, count, countBefore}
 use Rattle.chains.specs.Counts.{ways}
 use Rattle.grid.specs.Grid.{scratchSize, Table}
+use Rattle.grid.specs.Rests.{restAt}
 use Rattle.counting.specs.Table.{countCell}
-use Rattle.ranking.specs.Points.{restAt}
 
 -- The count table of n stands in the scratch.
 pub record Tabled (n : ℕ) (scratch : List ℕ) : Type 0 where
@@ -22,8 +22,8 @@ pub record Tabled (n : ℕ) (scratch : List ℕ) : Type 0 where
 
 -- ---- from a word to its position
 
--- The walk over the letters of a word of the list of n stands at (a, b), and `before` words of the list stand before the word by the
--- letters passed.
+-- The walk over the letters of a word of the list of n stands at (a, b), and `before` words of the list stand before the word by
+-- the letters passed.
 pub record RankWalked (n : ℕ) (letters : Word) (a b before : ℕ) : Type 0 where
   pub reader : Bool
   pub member : List·Memᴰ (drop (a + b) letters) (wordsAt reader (restAt n a b))
@@ -91,7 +91,8 @@ pub record Readable (letters : Word) (scratch : List ℕ) : Type 0 where
   pub good : T (reads true letters)
   pub room : scratchSize ≤ length scratch
 
--- The table of n in the scratch, and 64 places.
-pub record Giving (n : ℕ) (scratch places : List ℕ) : Type 0 where
+-- The table of n in the scratch, its count k, and 64 places.
+pub record Giving (n k : ℕ) (scratch places : List ℕ) : Type 0 where
   pub counts : Tabled n scratch
+  pub number : k ≡ count n
   pub room : 64 ≤ length places

@@ -2,6 +2,7 @@
 mod tables;
 mod walks;
 
+use counting::Counted;
 use words::Parted;
 use words::Weighed;
 use words::Written;
@@ -9,7 +10,8 @@ ghost use mathlib.Core.Path.{_≡_};
 ghost use lib.Dec.{ltb};
 ghost use lib.ListN.{length};
 ghost use Rattle.grid.specs.Grid.{scratchSize};
-ghost use Rattle.ranking.specs.Services.{lent, tooLittle, answerOf, placesLeft, scratchLeft, atPosition, ofWord, nextOf, ofRecord, placedOf, lentScratch};
+ghost use Rattle.ranking.specs.Services.{lent, tooLittle, answerOf, placesLeft, scratchLeft, atPosition, ofWord, nextOf};
+ghost use Rattle.ranking.specs.Services.{ofRecord, placedOf, lentScratch};
 
 // Where a record's chain stands, or the refusal.
 pub enum Placed {
@@ -27,7 +29,8 @@ pub enum Found {
 // Refuses with 1, 8, 9, 10 in that order.
 pub fn read_record(numbers: &[u16], scratch: &mut [u64]) -> Placed
     ensures answer { λ r. ⌜ r ≡ placedOf (lentScratch (now (scratch .entry)) (ofRecord (now (numbers .entry)))) ⌝ }
-    ensures scratch { λ _. ⌜ now (scratch .exit) ≡ scratchLeft (ltb (length (now (scratch .entry))) scratchSize) (now (scratch .entry)) ⌝ }
+    ensures scratch { λ _. ⌜ now (scratch .exit)
+        ≡ scratchLeft (ltb (length (now (scratch .entry))) scratchSize) (now (scratch .entry)) ⌝ }
 {
     if scratch.len() < 5248 {
         return Placed::Refused(1);
@@ -45,12 +48,14 @@ pub fn read_record(numbers: &[u16], scratch: &mut [u64]) -> Placed
     }
 }
 
-// Reading a word: n, position and number of parts of its chain; the part numbers in the places. Refuses with 1, 7, 10 in that order.
+// Reading a word: n, position and number of parts of its chain; the part numbers in the places. Refuses with 1, 7, 10 in that
+// order.
 pub fn read_word(letters: &[u8], scratch: &mut [u64], places: &mut [u16]) -> Found
     ensures answer { λ r. ⌜ r ≡ answerOf (lent (now (scratch .entry)) (now (places .entry)) (ofWord (now (letters .entry)))) ⌝ }
     ensures places { λ _. ⌜ now (places .exit)
         ≡ placesLeft (lent (now (scratch .entry)) (now (places .entry)) (ofWord (now (letters .entry)))) (now (places .entry)) ⌝ }
-    ensures scratch { λ _. ⌜ now (scratch .exit) ≡ scratchLeft (tooLittle (now (scratch .entry)) (now (places .entry))) (now (scratch .entry)) ⌝ }
+    ensures scratch { λ _. ⌜ now (scratch .exit)
+        ≡ scratchLeft (tooLittle (now (scratch .entry)) (now (places .entry))) (now (scratch .entry)) ⌝ }
 {
     if scratch.len() < 5248 {
         return Found::Refused(1);
@@ -72,24 +77,28 @@ pub fn chain_at(n: u64, position: u64, scratch: &mut [u64], places: &mut [u16]) 
     ensures answer { λ r. ⌜ r ≡ answerOf (lent (now (scratch .entry)) (now (places .entry)) (atPosition n position)) ⌝ }
     ensures places { λ _. ⌜ now (places .exit)
         ≡ placesLeft (lent (now (scratch .entry)) (now (places .entry)) (atPosition n position)) (now (places .entry)) ⌝ }
-    ensures scratch { λ _. ⌜ now (scratch .exit) ≡ scratchLeft (tooLittle (now (scratch .entry)) (now (places .entry))) (now (scratch .entry)) ⌝ }
+    ensures scratch { λ _. ⌜ now (scratch .exit)
+        ≡ scratchLeft (tooLittle (now (scratch .entry)) (now (places .entry))) (now (scratch .entry)) ⌝ }
 {
     if places.len() < 64 {
         return Found::Refused(1);
     }
-    if !counting::fill_counts(n, scratch) {
+    let Counted::Count(count) = counting::fill_counts(n, scratch) else {
         return Found::Refused(1);
-    }
-    tables::give_at(n, position, 6, scratch, places)
+    };
+    tables::give_at(n, count, position, 6, scratch, places)
 }
 
 // The chain after a word's in its list; the part numbers in the places. Refuses with 1, 7, 10 in that order, then with 11 where the
 // word's chain is the last.
 pub fn next_chain(letters: &[u8], scratch: &mut [u64], places: &mut [u16]) -> Found
-    ensures answer { λ r. ⌜ r ≡ answerOf (lent (now (scratch .entry)) (now (places .entry)) (nextOf (ofWord (now (letters .entry))))) ⌝ }
+    ensures answer { λ r. ⌜ r
+        ≡ answerOf (lent (now (scratch .entry)) (now (places .entry)) (nextOf (ofWord (now (letters .entry))))) ⌝ }
     ensures places { λ _. ⌜ now (places .exit)
-        ≡ placesLeft (lent (now (scratch .entry)) (now (places .entry)) (nextOf (ofWord (now (letters .entry))))) (now (places .entry)) ⌝ }
-    ensures scratch { λ _. ⌜ now (scratch .exit) ≡ scratchLeft (tooLittle (now (scratch .entry)) (now (places .entry))) (now (scratch .entry)) ⌝ }
+        ≡ placesLeft (lent (now (scratch .entry)) (now (places .entry)) (nextOf (ofWord (now (letters .entry)))))
+        (now (places .entry)) ⌝ }
+    ensures scratch { λ _. ⌜ now (scratch .exit)
+        ≡ scratchLeft (tooLittle (now (scratch .entry)) (now (places .entry))) (now (scratch .entry)) ⌝ }
 {
     if scratch.len() < 5248 {
         return Found::Refused(1);

@@ -2,6 +2,7 @@
 use super::Found;
 use super::Placed;
 use super::walks;
+use counting::Counted;
 use words::Parted;
 use words::Weighed;
 ghost use mathlib.Core.Path.{_≡_};
@@ -58,14 +59,22 @@ pub fn place_word(letters: &[u8], scratch: &mut [u64]) -> Placed
     Placed::At { n, position }
 }
 
-// Gives the chain at the position i of the list of n, whose table stands in the scratch; past the count it is refused with `refusal`.
-pub fn give_at(n: u64, i: u64, refusal: u8, scratch: &mut [u64], places: &mut [u16]) -> Found
-    requires { ⌜ Giving n (now scratch) (now places) ⌝ }
+// Gives the chain at the position i of the list of n, whose table stands in the scratch; past its count it is refused with
+// `refusal`.
+pub fn give_at(
+    n: u64,
+    count: u64,
+    i: u64,
+    refusal: u8,
+    scratch: &mut [u64],
+    places: &mut [u16],
+) -> Found
+    requires { ⌜ Giving n count (now scratch) (now places) ⌝ }
     ensures { λ r. ⌜ r ≡ answerOf (standing refusal n i) ⌝ }
     ensures { λ _. ⌜ now (places .exit) ≡ placesLeft (standing refusal n i) (now (places .entry)) ⌝ }
     ensures { λ _. ⌜ now (scratch .exit) ≡ filled scratchSize [] (now (scratch .entry)) ⌝ }
 {
-    if walks::count_in(n, scratch) <= i {
+    if count <= i {
         return refuse(refusal, scratch);
     }
     let mut letters = [0u8; 64];
@@ -81,10 +90,13 @@ pub fn give_at(n: u64, i: u64, refusal: u8, scratch: &mut [u64], places: &mut [u
 pub fn give_after(n: u64, letters: &[u8], scratch: &mut [u64], places: &mut [u16]) -> Found
     requires { ⌜ Listed n (now letters) (now scratch) × (64 ≤ length (now places)) ⌝ }
     ensures { λ r. ⌜ r ≡ answerOf (standing 11 n (countBefore (now (letters .entry)) (listOf n) + 1)) ⌝ }
-    ensures { λ _. ⌜ now (places .exit) ≡ placesLeft (standing 11 n (countBefore (now (letters .entry)) (listOf n) + 1)) (now (places .entry)) ⌝ }
+    ensures { λ _. ⌜ now (places .exit)
+        ≡ placesLeft (standing 11 n (countBefore (now (letters .entry)) (listOf n) + 1)) (now (places .entry)) ⌝ }
     ensures { λ _. ⌜ now (scratch .exit) ≡ filled scratchSize [] (now (scratch .entry)) ⌝ }
 {
-    counting::fill_counts(n, scratch);
+    let Counted::Count(count) = counting::fill_counts(n, scratch) else {
+        return Found::Refused(1);
+    };
     let position = walks::rank_of(n, letters, scratch);
-    give_at(n, position + 1, 11, scratch, places)
+    give_at(n, count, position + 1, 11, scratch, places)
 }

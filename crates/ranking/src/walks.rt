@@ -2,23 +2,12 @@
 // a word, from the point (0, 0) up; the next letter's index is a + b. Where b rises, the words with a rise of a there stand before.
 ghost use mathlib.Core.Path.{_≡_};
 ghost use mathlib.Core.Bool.{false};
-ghost use Prim.Native.Nat.{_+_, _/_, _≤_, _<_};
-ghost use lib.ListN.{length, take};
-ghost use Rattle.chains.specs.Listing.{listOf, count, countBefore};
+ghost use Prim.Native.Nat.{_+_, _/_, _<_};
+ghost use Rattle.chains.specs.Listing.{listOf, countBefore};
 ghost use Rattle.chains.specs.Counts.{ways};
-ghost use Rattle.ranking.specs.Points.{restAt, Between};
+ghost use Rattle.grid.specs.Rests.{restAt};
+ghost use Rattle.ranking.specs.Points.{Between};
 ghost use Rattle.ranking.specs.Walks.{Tabled, RankStart, RankStep, RankWalked, WordStart, WordStep, WordRisen, WordFound};
-
-// The count of n. The table has 0 for the number 0, which has one chain, the empty one.
-pub fn count_in(n: u64, scratch: &[u64]) -> u64
-    requires { ⌜ Tabled n (now scratch) ⌝ }
-    ensures { λ r. ⌜ r ≡ count n ⌝ }
-{
-    if n == 0 {
-        return 1;
-    }
-    scratch[0]
-}
 
 // How many words begin with a rise of a at the point (a, b): the number in the next column.
 fn rising_a(n: u64, a: usize, b: usize, scratch: &[u64]) -> u64

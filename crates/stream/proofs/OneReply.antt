@@ -16,7 +16,7 @@ use lib.Seq.{length-take-le, drop-at, take-at, set-split, take-append-add, drop-
 use Rattle.lent.specs.Lent.{filled, length-filled, filled-first}
 use Rattle.lent.specs.Parts.{part-lent, part-back}
 use Rattle.digits.specs.DigitLaws.{length-digits}
-use Rattle.ranking.specs.Services.{pickList, scratchLeft}
+use Rattle.ranking.specs.Services.{scratchLeft}
 use Rattle.frames.specs.Replies.{Reply, refusedAs, servedWith, digitsIn, replyTo, replyOf, littleLent, repliedOf, answerTo, outLeft}
 use Rattle.frames.specs.ReplyLaws.{reply-short}
 use Rattle.stream.specs.Answers.{behindOne}
@@ -39,12 +39,12 @@ module _ (line scratch part : List ℕ) (h : 5248 ≤ length scratch) (k : 514 �
   reply-told = rw enough-lent (told-length (replyTo line))
 
   pub reply-out : outLeft (littleLent scratch part) line part ≡ filled 514 (replyOf line) part
-  unfolding outLeft pickList
-  reply-out = rw (enough-lent, pickList)
+  unfolding outLeft
+  reply-out = rw enough-lent
 
   pub reply-scratch : scratchLeft (littleLent scratch part) scratch ≡ filled 5248 [] scratch
-  unfolding scratchLeft pickList
-  reply-scratch = rw (enough-lent, pickList)
+  unfolding scratchLeft
+  reply-scratch = rw enough-lent
 
 -- ---- the part back in its place
 

@@ -1,5 +1,6 @@
-// The best chain of 0 to 400 under twelve limits and prices each; of a thousand 64-bit numbers, with no limit and with limits one below, at
-// and one above what the best chain needs; of numbers at the edges, with what is left in the lent memory; and with too little lent.
+// The best chain of 0 to 400 under twelve limits and prices each; of a thousand 64-bit numbers, with no limit and with limits one
+// below, at and one above what the best chain needs; of numbers at the edges, with what is left in the lent memory; and with too
+// little lent.
 //
 // A line: the position, the number of parts, the price and the part numbers, or the number of the refusal.
 use best::Chosen;
@@ -18,151 +19,55 @@ struct Prices {
     s: u16,
 }
 
+fn at_most(parts: u8, a: u8, b: u8) -> Limits {
+    Limits { parts, a, b }
+}
+
+fn priced(d: u16, t: u16, s: u16) -> Prices {
+    Prices { d, t, s }
+}
+
 // Those of the small numbers, then those of the numbers at the edges, then those of the examples.
 fn limits_at(i: u64) -> Limits {
     match i {
-        0 => Limits {
-            parts: 255,
-            a: 255,
-            b: 255,
-        },
-        1 => Limits {
-            parts: 64,
-            a: 63,
-            b: 40,
-        },
-        2 => Limits {
-            parts: 3,
-            a: 63,
-            b: 40,
-        },
-        3 => Limits {
-            parts: 2,
-            a: 5,
-            b: 2,
-        },
-        4 => Limits {
-            parts: 4,
-            a: 3,
-            b: 40,
-        },
-        5 => Limits {
-            parts: 3,
-            a: 63,
-            b: 1,
-        },
-        6 => Limits {
-            parts: 1,
-            a: 255,
-            b: 255,
-        },
-        7 => Limits {
-            parts: 0,
-            a: 0,
-            b: 0,
-        },
-        8 => Limits {
-            parts: 5,
-            a: 0,
-            b: 40,
-        },
-        9 => Limits {
-            parts: 6,
-            a: 63,
-            b: 0,
-        },
-        10 => Limits {
-            parts: 255,
-            a: 255,
-            b: 255,
-        },
-        11 => Limits {
-            parts: 63,
-            a: 63,
-            b: 40,
-        },
-        12 => Limits {
-            parts: 62,
-            a: 63,
-            b: 40,
-        },
-        13 => Limits {
-            parts: 64,
-            a: 63,
-            b: 0,
-        },
-        14 => Limits {
-            parts: 63,
-            a: 63,
-            b: 0,
-        },
-        15 => Limits {
-            parts: 64,
-            a: 0,
-            b: 40,
-        },
-        16 => Limits {
-            parts: 255,
-            a: 62,
-            b: 40,
-        },
-        17 => Limits {
-            parts: 255,
-            a: 63,
-            b: 39,
-        },
-        18 => Limits {
-            parts: 2,
-            a: 63,
-            b: 40,
-        },
-        19 => Limits {
-            parts: 1,
-            a: 63,
-            b: 40,
-        },
-        20 => Limits {
-            parts: 255,
-            a: 255,
-            b: 255,
-        },
-        _ => Limits {
-            parts: 0,
-            a: 0,
-            b: 0,
-        },
+        0 => at_most(255, 255, 255),
+        1 => at_most(64, 63, 40),
+        2 => at_most(3, 63, 40),
+        3 => at_most(2, 5, 2),
+        4 => at_most(4, 3, 40),
+        5 => at_most(3, 63, 1),
+        6 => at_most(1, 255, 255),
+        7 => at_most(0, 0, 0),
+        8 => at_most(5, 0, 40),
+        9 => at_most(6, 63, 0),
+        10 => at_most(255, 255, 255),
+        11 => at_most(63, 63, 40),
+        12 => at_most(62, 63, 40),
+        13 => at_most(64, 63, 0),
+        14 => at_most(63, 63, 0),
+        15 => at_most(64, 0, 40),
+        16 => at_most(255, 62, 40),
+        17 => at_most(255, 63, 39),
+        18 => at_most(2, 63, 40),
+        19 => at_most(1, 63, 40),
+        20 => at_most(255, 255, 255),
+        _ => at_most(0, 0, 0),
     }
 }
 
 fn prices_of(i: u64) -> Prices {
     match i {
-        0 => Prices { d: 4, t: 7, s: 9 },
-        1 => Prices { d: 0, t: 0, s: 0 },
-        2 => Prices {
-            d: 65535,
-            t: 65535,
-            s: 65535,
-        },
-        3 => Prices {
-            d: 1,
-            t: 65535,
-            s: 0,
-        },
-        4 => Prices {
-            d: 65535,
-            t: 1,
-            s: 3,
-        },
-        _ => Prices {
-            d: 0,
-            t: 1,
-            s: 65535,
-        },
+        0 => priced(4, 7, 9),
+        1 => priced(0, 0, 0),
+        2 => priced(65535, 65535, 65535),
+        3 => priced(1, 65535, 0),
+        4 => priced(65535, 1, 3),
+        _ => priced(0, 1, 65535),
     }
 }
 
-// 3 × 2^62 and its neighbour below, the last numbers, powers with their neighbours, a number of many chains; then document 01's two lines of
-// kind 02, its number 29, and 0.
+// 3 × 2^62 and its neighbour below, the last numbers, powers with their neighbours, a number of many chains; then document 01's two
+// lines of kind 02, its number 29, and 0.
 fn number_at(i: u64) -> u64 {
     match i {
         0 => 13835058055282163711,
@@ -286,21 +191,9 @@ fn around(need: u64, at: u64) -> u8 {
 
 fn variant(i: u64, need: Need) -> Limits {
     match i {
-        3 => Limits {
-            parts: 255,
-            a: around(need.a, need.at_a),
-            b: 255,
-        },
-        4 => Limits {
-            parts: 255,
-            a: 255,
-            b: around(need.b, need.at_b),
-        },
-        _ => Limits {
-            parts: around(need.parts, i),
-            a: 255,
-            b: 255,
-        },
+        3 => at_most(255, around(need.a, need.at_a), 255),
+        4 => at_most(255, 255, around(need.b, need.at_b)),
+        _ => at_most(around(need.parts, i), 255, 255),
     }
 }
 

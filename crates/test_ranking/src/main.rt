@@ -1,11 +1,11 @@
 // Every position of the numbers to 300, and some positions of 64-bit numbers: the chain there, its word, and what reading the word,
 // reading the record and asking for the next chain answer.
 //
-// A line has n, the position, how many parts, a digest of the 64 places, how many letters and a digest of the 64 letters; then = where
-// reading the word gives the same, and = where reading the record tells the same n and position; then how many parts the next chain
-// has and a digest of its places, where it is the chain of n at the next position, or the refusal. A refused position has its number
-// alone. Whatever else comes is printed in full. The scratch is full of ones at each call, of 5,248 numbers or of 6,000; a line
-// ends in ! where it, or the places past the 64th, are not left as they should be.
+// A line has n, the position, how many parts, a digest of the 64 places, how many letters and a digest of the 64 letters; then =
+// where reading the word gives the same, and = where reading the record tells the same n and position; then how many parts the next
+// chain has and a digest of its places, where it is the chain of n at the next position, or the refusal. A refused position has its
+// number alone. Whatever else comes is printed in full. The scratch is full of ones at each call, of 5,248 numbers or of 6,000; a
+// line ends in ! where it, or the places past the 64th, are not left as they should be.
 use counting::Counted;
 use libc::STDOUT_FILENO;
 use parts::Number;

@@ -1,5 +1,4 @@
 -- What the proofs of several functions use.
 mod Sized
 mod Between
-mod Marked
 mod Marks

@@ -1,6 +1,6 @@
--- What a letter that a reader takes does, by arithmetic: it marks a part if it is odd; a rises if it is 0 or 1, and b if it is 2 or 3.
--- In order: one letter, and the chain from it on; the parts that a word marks, and that they are as many as its chain has; while letters
--- are left, so is a part.
+-- What a letter that a reader takes does, by arithmetic: it marks a part if it is odd; a rises if it is 0 or 1, and b if it is 2 or
+-- 3. In order: one letter, and the chain from it on; the parts that a word marks, and that they are as many as its chain has; while
+-- letters are left, so is a part.
 use mathlib.Core.Path.{_≡_, ap, _∙_}
 use mathlib.Core.Bool.{Bool, true, false, _&&_}
 use mathlib.Core.List.{List, [], _∷_, _++_}

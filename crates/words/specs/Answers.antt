@@ -1,5 +1,5 @@
 -- What the readers, the comparison and the weighing answer, at all inputs: document 01, 'Path words', 'Services and memory'.
-use mathlib.Core.Bool.{Bool, true, false, _&&_}
+use mathlib.Core.Bool.{true, cond, _&&_}
 use Prim.Native.Nat.{ℕ, _^_}
 use lib.Dec.{ltb}
 use Rattle.chains.specs.Words.{Word, reads}
@@ -10,25 +10,17 @@ use Rattle.words.specs.declared.Compared.the-variants.{Earlier, Same, La
 use Rattle.words.specs.declared.Weighed.{Weighed}
 use Rattle.words.specs.declared.Weighed.the-variants.{Number, Over}
 
-unfoldable pub pickCompared : Bool → Compared → Compared → Compared
-pickCompared true x y = x
-pickCompared false x y = y
-
 -- How u stands to v in the dictionary, good or not.
 unfoldable pub orderOf : Word → Word → Compared
-orderOf u v = pickCompared (before u v) Earlier (pickCompared (before v u) Later Same)
+orderOf u v = cond (before u v) Earlier (cond (before v u) Later Same)
 
 -- The same for good words, and refusal 7 if either is not good.
 unfoldable pub comparedOf : Word → Word → Compared
-comparedOf u v = pickCompared (reads true u && reads true v) (orderOf u v) (Refused 7)
-
-unfoldable pub pickWeighed : Bool → Weighed → Weighed → Weighed
-pickWeighed true x y = x
-pickWeighed false x y = y
+comparedOf u v = cond (reads true u && reads true v) (orderOf u v) (Refused 7)
 
 -- A number, or that it is 2^64 or more.
 unfoldable pub sized : ℕ → Weighed
-sized n = pickWeighed (ltb n (2 ^ 64)) (Number n) Over
+sized n = cond (ltb n (2 ^ 64)) (Number n) Over
 
 -- The number that a word stands for, or that it is 2^64 or more.
 unfoldable pub weighedOf : Word → Weighed

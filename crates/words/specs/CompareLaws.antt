@@ -1,9 +1,9 @@
 -- The comparison's answers in the terms of document 01: refusal 7 exactly if a word is not good; of good words earlier, later or
--- the same, as they stand in the dictionary. The definitions are in Answers; that any two words are one, or one is before the other,
--- is in the crate chains, in Order.
+-- the same, as they stand in the dictionary. The definitions are in Answers; that any two words are one, or one is before the
+-- other, is in the crate chains, in Order.
 use mathlib.Core.Path.{_≡_, refl}
 use mathlib.Core.Logic.{_↔_, _⊎_, inl, inr, ⊎-elim}
-use mathlib.Core.Bool.{Bool, true, false, _&&_}
+use mathlib.Core.Bool.{Bool, true, false, cond, _&&_}
 use Prim.Native.Nat.{ℕ}
 use native.Mathlib.Omega.{arith}
 use lib.Dec.{T, not-T}
@@ -12,22 +12,21 @@ use Rattle.chains.specs.Words.{Word, Good, reads}
 use Rattle.chains.specs.Listing.{before}
 use Rattle.chains.specs.Readers.{readers-good}
 use Rattle.chains.specs.Order.{before-irrefl, before-trans}
-use Rattle.words.specs.Answers.{pickCompared, orderOf, comparedOf}
+use Rattle.words.specs.Answers.{orderOf, comparedOf}
 use Rattle.words.specs.declared.Compared.the-variants.{Earlier, Same, Later, Refused}
 
-never-refused : (a b : Bool) → pickCompared a Earlier (pickCompared b Later Same) ≡ Refused 7 → ⊥
-unfolding pickCompared
+never-refused : (a b : Bool) → cond a Earlier (cond b Later Same) ≡ Refused 7 → ⊥
 never-refused true b e = let z : _≡_ {A = ℕ} 0 1 = cc in omega arith
 never-refused false true e = let z : _≡_ {A = ℕ} 0 1 = cc in omega arith
 never-refused false false e = let z : _≡_ {A = ℕ} 0 1 = cc in omega arith
 
 -- Refusal 7 exactly if one of the two words is not good.
 pub compared-refused : (u v : Word) → (comparedOf u v ≡ Refused 7) ↔ ((Good u → ⊥) ⊎ (Good v → ⊥))
-unfolding comparedOf orderOf pickCompared
+unfolding comparedOf orderOf
 compared-refused u v = go (reads true u) (reads true v) (readers-good u) (readers-good v)
   where
     go : (p q : Bool) → T p ↔ Good u → T q ↔ Good v
-        → (pickCompared (p && q) (orderOf u v) (Refused 7) ≡ Refused 7) ↔ ((Good u → ⊥) ⊎ (Good v → ⊥))
+        → (cond (p && q) (orderOf u v) (Refused 7) ≡ Refused 7) ↔ ((Good u → ⊥) ⊎ (Good v → ⊥))
     go true true gu gv = (
       λ e. absurd (never-refused (before u v) (before v u) e),
       ⊎-elim (λ (n : Good u → ⊥). absurd (n (gu .0 tt))) (λ (n : Good v → ⊥). absurd (n (gv .0 tt))),
@@ -38,20 +37,20 @@ compared-refused u v = go (reads true u) (reads true v) (readers-good u) (reader
 -- Good words in the three ways in which they can stand: each of them has its answer.
 module _ (u v : Word) (gu : Good u) (gv : Good v) where
   compared-good : comparedOf u v ≡ orderOf u v
-  unfolding comparedOf pickCompared
+  unfolding comparedOf
   compared-good = rw (is-true (reads true u) (readers-good u .1 gu), is-true (reads true v) (readers-good v .1 gv))
 
   pub compared-earlier : T (before u v) → comparedOf u v ≡ Earlier
-  unfolding orderOf pickCompared
+  unfolding orderOf
   compared-earlier h = rw (compared-good, orderOf, is-true (before u v) h)
 
   pub compared-later : T (before v u) → comparedOf u v ≡ Later
-  unfolding orderOf pickCompared
+  unfolding orderOf
   compared-later h =
       let n = not-T (before u v) (λ (g : T (before u v)). before-irrefl u (before-trans u v u g h)) in
       rw (compared-good, orderOf, is-false (before u v) n, is-true (before v u) h)
 
 pub compared-same : (u : Word) → Good u → comparedOf u u ≡ Same
-unfolding orderOf pickCompared
+unfolding orderOf
 compared-same u g =
     rw (compared-good u u g g, orderOf, is-false (before u u) (not-T (before u u) (before-irrefl u)))

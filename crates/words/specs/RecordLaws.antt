@@ -3,7 +3,7 @@
 -- part table; the sum of the table's entries is the sum of the parts; the theorem of record. The definitions are in Records.
 use mathlib.Core.Path.{_≡_, refl, sym, ap, ap₂, _∙_}
 use mathlib.Core.Logic.{_↔_, Iff·and, Iff·trans}
-use mathlib.Core.Bool.{Bool, true, false, _&&_, _||_, not, true≢false}
+use mathlib.Core.Bool.{Bool, true, false, cond, _&&_, _||_, not, true≢false}
 use mathlib.Core.List.{List, [], _∷_}
 use Prim.Native.Nat.{ℕ, zero, suc, _+_, _*_, _/_, _%_, _^_, _≤_, _<_}
 use native.Mathlib.Nat.{div-add-mod', mul-mod-left, mul-le-mul-right, lt-of-not-le}
@@ -18,7 +18,7 @@ use Rattle.chains.specs.Divides.{value-pos}
 use Rattle.parts.specs.Table.{parts}
 use Rattle.parts.specs.Parts.{limit, sumAt}
 use Rattle.parts.specs.Numbers.{part-value}
-use Rattle.words.specs.Records.{recordParts, beyond, chainedTest, pickJudged, judgedOf}
+use Rattle.words.specs.Records.{recordParts, beyond, chainedTest, judgedOf}
 use Rattle.words.specs.declared.Judged.the-variants.{Sum, Refused}
 
 -- ---- the chain condition
@@ -100,9 +100,8 @@ pub record Burned (l : List ℕ) (n : ℕ) : Type 0 where
 -- How the three tests stand where the answer is a sum.
 tests-passed :
     (a b c : Bool) (t n : ℕ)
-    → pickJudged a (Refused 8) (pickJudged (not b) (Refused 9) (pickJudged c (Refused 10) (Sum t))) ≡ Sum n
+    → cond a (Refused 8) (cond (not b) (Refused 9) (cond c (Refused 10) (Sum t))) ≡ Sum n
     → (a ≡ false) × (b ≡ true) × (c ≡ false) × (t ≡ n)
-unfolding pickJudged
 tests-passed true b c t n e = let z : _≡_ {A = ℕ} 0 1 = cc in absurd (omega arith)
 tests-passed false false c t n e = let z : _≡_ {A = ℕ} 0 1 = cc in absurd (omega arith)
 tests-passed false true true t n e = let z : _≡_ {A = ℕ} 0 1 = cc in absurd (omega arith)
@@ -110,7 +109,7 @@ tests-passed false true false t n e = (refl, refl, refl, cc)
 
 -- A record gets its sum exactly if it is such a one.
 pub judged-sum : (l : List ℕ) (n : ℕ) → (judgedOf l ≡ Sum n) ↔ Burned l n
-unfolding judgedOf pickJudged
+unfolding judgedOf
 judged-sum l n = (there, back)
   where
     c : List Part

@@ -1,5 +1,5 @@
 -- A burned record: part numbers, largest part first (document 01, 'Frames' and the refusals 8, 9, 10).
-use mathlib.Core.Bool.{Bool, true, false, _&&_, _||_, not}
+use mathlib.Core.Bool.{Bool, true, false, cond, _&&_, _||_, not}
 use mathlib.Core.List.{List, [], _∷_, map}
 use Prim.Native.Nat.{ℕ, _%_}
 use lib.Dec.{ltb, leb, eqb}
@@ -24,15 +24,11 @@ chainedTest [] = true
 chainedTest (p ∷ []) = true
 chainedTest (p ∷ q ∷ c) = (ltb (value q) (value p) && eqb (value p % value q) 0) && chainedTest (q ∷ c)
 
-unfoldable pub pickJudged : Bool → Judged → Judged → Judged
-pickJudged true x y = x
-pickJudged false x y = y
-
--- What a record gets: 8 for a number of 1,344 or more or above 64 parts, 9 for a part that is no proper multiple of the next, 10 for
--- a sum of 2^64 or more, each looked for in the whole record before the next; else the sum.
+-- What a record gets: 8 for a number of 1,344 or more or above 64 parts, 9 for a part that is no proper multiple of the next, 10
+-- for a sum of 2^64 or more, each looked for in the whole record before the next; else the sum.
 unfoldable pub judgedOf : List ℕ → Judged
 judgedOf l =
-    pickJudged (ltb 64 (length l) || beyond l) (Refused 8)
-    (pickJudged (not (chainedTest (recordParts l))) (Refused 9)
-    (pickJudged (leb limit (total (recordParts l))) (Refused 10)
+    cond (ltb 64 (length l) || beyond l) (Refused 8)
+    (cond (not (chainedTest (recordParts l))) (Refused 9)
+    (cond (leb limit (total (recordParts l))) (Refused 10)
     (Sum (total (recordParts l)))))

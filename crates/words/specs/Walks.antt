@@ -1,16 +1,12 @@
 -- What the writer of a word's letters keeps on its way. Only private functions cite these definitions; what
 -- the services answer and leave behind is in Conversions.
 use mathlib.Core.Path.{_≡_}
-use mathlib.Core.Bool.{true, false}
-use mathlib.Core.List.{List, [], _∷_, _++_, map}
-use Prim.Native.Nat.{ℕ, _+_, _*_, _^_, _≤_, _<_}
-use lib.Dec.{T}
-use lib.ListN.{length, take, drop}
-use Rattle.chains.specs.Chains.{Part, value, Chained, total}
-use Rattle.chains.specs.Words.{Word, chainFrom, reads}
-use Rattle.chains.specs.Weight.{weight}
+use mathlib.Core.Bool.{false}
+use mathlib.Core.List.{List, _∷_, _++_}
+use Prim.Native.Nat.{ℕ, _+_, _≤_}
+use lib.ListN.{take, drop}
+use Rattle.chains.specs.Chains.{Part, Chained, total}
 use Rattle.parts.specs.Table.{parts}
-use Rattle.parts.specs.Parts.{placeOf}
 use Rattle.parts.specs.declared.Exponents.{Exponents}
 use Rattle.words.specs.Records.{recordParts, beyond}
 use Rattle.words.specs.RecordLaws.{Burned}

@@ -1,6 +1,6 @@
--- Records, chains and words lead to each other and back, for 003's chains and for the services' own answers.
--- In order: a chain of n below 2^64, its record and its word; a record that gets its sum, written as a word and read back; a good word
--- below 2^64, taken apart and written again. The answers are defined in Records and Conversions.
+-- Records, chains and words lead to each other, for 003's chains and for the services' own answers.
+-- In order: a record written as a word, and a good word taken apart; a chain of n below 2^64, its record and its word. The answers
+-- are defined in Records and Conversions.
 use mathlib.Core.Path.{_≡_, refl, ap, ap₂, _∙_}
 use mathlib.Core.Bool.{true, false}
 use mathlib.Core.List.{List, [], _∷_, map}
@@ -12,10 +12,10 @@ use lib.ListN.{length, length-map}
 use borrow.Author.Tests.{lt-ltb, le-ltb, lt-leb}
 use Rattle.chains.specs.Chains.{Part, value, total, ChainOf}
 use Rattle.chains.specs.Words.{Word, wordOf, chainOf, reads}
-use Rattle.chains.specs.Weight.{weight, total-chainOf}
-use Rattle.chains.specs.RoundTrip.{chain-word-chain, word-reads, word-chained, word-chain-word}
+use Rattle.chains.specs.Weight.{weight}
+use Rattle.chains.specs.RoundTrip.{chain-word-chain, word-reads}
 use Rattle.chains.specs.Bounds.{parts-bound, weight-wordOf}
-use Rattle.parts.specs.Parts.{limit, partAt, placeOf}
+use Rattle.parts.specs.Parts.{limit, placeOf}
 use Rattle.parts.specs.Numbers.{parts-complete, part-place, place-part}
 use Rattle.lent.specs.Lent.{filled}
 use Rattle.words.specs.Records.{recordParts, beyond, judgedOf}
@@ -47,10 +47,6 @@ parts-of-places (p ∷ c) h =
     let (first, rest) = both-below p c h in
     ap₂ (λ q d. q ∷ d) (part-place p first) (parts-of-places c rest)
 
-record-length : (l : List ℕ) → length (recordParts l) ≡ length l
-unfolding recordParts
-record-length l = length-map l partAt
-
 -- The numbers of a record are the places of their parts.
 pub places-of-parts : (l : List ℕ) → beyond l ≡ false → map placeOf (recordParts l) ≡ l
 unfolding recordParts
@@ -68,7 +64,8 @@ module _ (entry : List ℕ) (room : 64 ≤ length entry) where
       × (lettersLeft l entry (writtenOf l (length entry)) ≡ filled 64 (wordOf (recordParts l)) entry)
   unfolding writtenOf lettersOf lettersLeft
   record-written l n e =
-      let told : writtenOf l (length entry) ≡ written.Letters (length (wordOf (recordParts l))) = rw (writtenOf, le-ltb (length entry) 64 room, e) refl in
+      let told : writtenOf l (length entry) ≡ written.Letters (length (wordOf (recordParts l))) =
+      rw (writtenOf, le-ltb (length entry) 64 room, e) refl in
       (told, ap (λ x. lettersLeft l entry x) told)
 
   -- A good word below 2^64 is taken apart into the numbers of its chain.
@@ -112,22 +109,3 @@ module _ (n : ℕ) (c : List Part) (chain : ChainOf n c) (fits : n < 2 ^ 64) whe
     chain-parted =
         let e : weight (wordOf c) ≡ n = weight-wordOf c (chain .chained) ∙ chain .sums in
         rw (chain-word-chain c (chain .chained), e) at (word-parted entry room (wordOf c) (word-reads c) (rw e fits))
-
--- ---- there and back
-
--- A record that gets its sum comes back from its word.
-pub record-word-record : (l : List ℕ) (n : ℕ) → judgedOf l ≡ judged.Sum n → (entry : List ℕ) → 64 ≤ length entry
-    → (partedOf (wordOf (recordParts l)) (length entry) ≡ parted.Chain n (length l))
-    × (numbersLeft (wordOf (recordParts l)) entry (partedOf (wordOf (recordParts l)) (length entry)) ≡ filled 64 l entry)
-record-word-record l n e entry room =
-    let b = judged-sum l n .0 e in
-    let many : length (recordParts l) ≡ length l = record-length l in
-    rw (many, places-of-parts l (in-table l .1 (b .known))) at (chain-parted n (recordParts l) (b .chain) (b .fits) entry room)
-
--- A good word below 2^64 comes back from its parts.
-pub word-record-word : (w : Word) → T (reads true w) → weight w < 2 ^ 64 → (entry : List ℕ) → 64 ≤ length entry
-    → (writtenOf (map placeOf (chainOf w)) (length entry) ≡ written.Letters (length w))
-    × (lettersLeft (map placeOf (chainOf w)) entry (writtenOf (map placeOf (chainOf w)) (length entry)) ≡ filled 64 w entry)
-word-record-word w g h entry room =
-    rw (word-chain-word w g) at
-    (chain-written (weight w) (chainOf w) (record { chained = word-chained w; sums = total-chainOf w }) h entry room)

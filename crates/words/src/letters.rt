@@ -26,7 +26,8 @@ fn fill(places: &mut [u8], from: usize, to: usize, v: u8)
 // The letters from the point q up to p, none of them a part: b rises before a.
 fn write_path(places: &mut [u8], q: Exponents, p: Exponents)
     requires { ⌜ OnTheWay (point q) (point p) (length (now places)) ⌝ }
-    ensures { λ _. ⌜ now (places .exit) ≡ between (place (point q)) (place (point p)) (path (point q) (point p)) (now (places .entry)) ⌝ }
+    ensures { λ _. ⌜ now (places .exit)
+        ≡ between (place (point q)) (place (point p)) (path (point q) (point p)) (now (places .entry)) ⌝ }
 {
     let from = (q.a + q.b) as usize;
     let turn = (q.a + p.b) as usize;
@@ -38,7 +39,8 @@ fn write_path(places: &mut [u8], q: Exponents, p: Exponents)
 // The same letters where q is a part.
 fn write_marked(places: &mut [u8], q: Exponents, p: Exponents)
     requires { ⌜ OnTheWay (point q) (point p) (length (now places)) × (place (point q) < place (point p)) ⌝ }
-    ensures { λ _. ⌜ now (places .exit) ≡ between (place (point q)) (place (point p)) (marked (path (point q) (point p))) (now (places .entry)) ⌝ }
+    ensures { λ _. ⌜ now (places .exit)
+        ≡ between (place (point q)) (place (point p)) (marked (path (point q) (point p))) (now (places .entry)) ⌝ }
 {
     write_path(places, q, p);
     let from = (q.a + q.b) as usize;
@@ -57,7 +59,8 @@ fn part_of(table: &[u64], number: u16) -> Exponents
 fn write_back(table: &[u64], numbers: &[u16], largest: Exponents, places: &mut [u8])
     requires { ⌜ WayBack (now table) (now numbers) 1 (point largest) (length (now places)) ⌝ }
     ensures { λ _. ⌜ now (places .exit)
-        ≡ walk (point largest) (recordParts (drop 1 (now (numbers .entry)))) (drop (place (point largest)) (now (places .entry))) ⌝ }
+        ≡ walk (point largest) (recordParts (drop 1 (now (numbers .entry))))
+        (drop (place (point largest)) (now (places .entry))) ⌝ }
 {
     let mut p = largest;
     let mut i = 1;

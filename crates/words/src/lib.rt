@@ -64,7 +64,8 @@ pub fn compare_words(u: &[u8], v: &[u8]) -> Compared
     Compared::Refused(7)
 }
 
-// The number that a word stands for, or that it is 2^64 or more. Any bytes will do: one above 3 marks no part and moves to no point.
+// The number that a word stands for, or that it is 2^64 or more. Any bytes will do: one above 3 marks no part and moves to no
+// point.
 pub fn weigh(letters: &[u8]) -> Weighed
     ensures { λ r. ⌜ r ≡ weighedOf (now (letters .entry)) ⌝ }
 {
@@ -93,7 +94,8 @@ pub fn judge_record(numbers: &[u16]) -> Judged
 pub fn write_word(numbers: &[u16], places: &mut [u8]) -> Written
     ensures answer { λ r. ⌜ r ≡ writtenOf (now (numbers .entry)) (length (now (places .entry))) ⌝ }
     ensures places { λ _. ⌜ now (places .exit)
-        ≡ lettersLeft (now (numbers .entry)) (now (places .entry)) (writtenOf (now (numbers .entry)) (length (now (places .entry)))) ⌝ }
+        ≡ lettersLeft (now (numbers .entry)) (now (places .entry))
+        (writtenOf (now (numbers .entry)) (length (now (places .entry)))) ⌝ }
 {
     if places.len() < 64 {
         return Written::Refused(1);
@@ -110,7 +112,8 @@ pub fn write_word(numbers: &[u16], places: &mut [u8]) -> Written
 pub fn word_parts(letters: &[u8], places: &mut [u16]) -> Parted
     ensures answer { λ r. ⌜ r ≡ partedOf (now (letters .entry)) (length (now (places .entry))) ⌝ }
     ensures places { λ _. ⌜ now (places .exit)
-        ≡ numbersLeft (now (letters .entry)) (now (places .entry)) (partedOf (now (letters .entry)) (length (now (places .entry)))) ⌝ }
+        ≡ numbersLeft (now (letters .entry)) (now (places .entry))
+        (partedOf (now (letters .entry)) (length (now (places .entry)))) ⌝ }
 {
     if places.len() < 64 {
         return Parted::Refused(1);

@@ -1,5 +1,5 @@
-// A burned record, part numbers with the largest part first: document 01's refusals 8, 9 and 10, each looked for in the whole record
-// before the next. The table that is lent is the part table.
+// A burned record, part numbers with the largest part first: document 01's refusals 8, 9 and 10, each looked for in the whole
+// record before the next. The table that is lent is the part table.
 use super::Judged;
 use parts::Sum;
 ghost use mathlib.Core.Path.{_≡_};

@@ -1,7 +1,7 @@
 // The numbers of a word's parts, in places that are lent. The word is good and stands for less than 2^64.
 //
-// A letter of 0 to 3 tells what it does by arithmetic alone: it marks a part if it is odd, and b rises if it is 2 or more. So no step of
-// the loops branches on a letter.
+// A letter of 0 to 3 tells what it does by arithmetic alone: it marks a part if it is odd, and b rises if it is 2 or more. So no
+// step of the loops branches on a letter.
 use parts::Number;
 ghost use mathlib.Core.Path.{_≡_};
 ghost use mathlib.Core.Bool.{true};
@@ -39,10 +39,11 @@ fn number_at(a: u64, b: u64) -> u16
 }
 
 // The numbers of the word's k parts in the first k places, the largest part first: the walk meets the smallest one first, which
-// has the last place. The number of each point is stored where the next part's belongs: if the point is no part, a later store takes
-// its place, since the last point is a part.
+// has the last place. The number of each point is stored where the next part's belongs: if the point is no part, a later store
+// takes its place, since the last point is a part.
 fn store_numbers(letters: &[u8], places: &mut [u16], k: usize)
-    requires { ⌜ (reads true (now letters) ≡ true) × (weight (now letters) < 2 ^ 64) × (k ≡ length (chainOf (now letters))) × (k ≤ length (now places)) ⌝ }
+    requires { ⌜ (reads true (now letters) ≡ true) × (weight (now letters) < 2 ^ 64)
+        × (k ≡ length (chainOf (now letters))) × (k ≤ length (now places)) ⌝ }
     ensures { λ _. ⌜ now (places .exit) ≡ map placeOf (chainOf (now (letters .entry))) ++ drop k (now (places .entry)) ⌝ }
 {
     let mut a: u64 = 0;
@@ -62,7 +63,8 @@ fn store_numbers(letters: &[u8], places: &mut [u16], k: usize)
 
 // The same, and zeros in the other places up to 64.
 pub fn fill_places(letters: &[u8], places: &mut [u16], k: usize)
-    requires { ⌜ (reads true (now letters) ≡ true) × (weight (now letters) < 2 ^ 64) × (k ≡ length (chainOf (now letters))) × (64 ≤ length (now places)) ⌝ }
+    requires { ⌜ (reads true (now letters) ≡ true) × (weight (now letters) < 2 ^ 64)
+        × (k ≡ length (chainOf (now letters))) × (64 ≤ length (now places)) ⌝ }
     ensures { λ _. ⌜ now (places .exit) ≡ filled 64 (map placeOf (chainOf (now (letters .entry)))) (now (places .entry)) ⌝ }
 {
     lent::clear_u16(&mut places[0..64]);

@@ -1,21 +1,48 @@
--- `fill_counts` meets its contract: a scratch of 5,248 numbers has room for the rows from 0 on.
-use mathlib.Core.Path.{refl, sym}
-use mathlib.Core.Bool.{true≢false, false≢true}
+-- `fill_counts` meets its contract: a scratch of 5,248 numbers has room for the rows from 0 on, and the first cell of the table has
+-- the count, but for the number 0.
+use mathlib.Core.Path.{_≡_, refl, sym, ap, _∙_}
+use mathlib.Core.List.{List}
+use Prim.Native.Nat.{ℕ, _≤_}
 use native.Mathlib.Omega.{arith}
 use lib.ListN.{length}
 use borrow.Author.Needs.{needs}
-use borrow.Author.Tests.{le-leb, lt-leb}
+use Rattle.chains.specs.Listing.{count}
+use Rattle.chains.specs.Counts.{count-0}
+use Rattle.grid.specs.Grid.{scratchSize}
+use Rattle.counting.specs.declared.Counted.the-variants.{Count}
+use Rattle.counting.specs.Table.{CountsIn, count-in}
+use Rattle.counting.specs.TableCount.{countedOf, TableAsked, counted-served, counted-refused}
 use Rattle.counting.proofs.fill_counts.Statement.{statement}
 use Rattle.counting.proofs.fill_counts.Tie as tie
 
 returns : tie.Need-returns
-returns c = (sym (lt-leb _ _ (c .if1 .taken)), record { there = λ e. absurd (false≢true e); untouched = λ e. refl })
+returns c =
+    (sym (counted-refused _ _ (c .if1 .taken)), record { there = λ h. absurd (omega (arith, h, c .if1 .taken)); untouched = λ h. refl })
+
+served : {n k : ℕ} {entry l : List ℕ} → scratchSize ≤ length entry → CountsIn n entry l → k ≡ count n
+    → (Count k ≡ countedOf n (length entry)) × TableAsked n entry l
+served {n} {entry = entry} h f e =
+    (ap Count e ∙ sym (counted-served n (length entry) h), record { there = λ k. f; untouched = λ k. absurd (omega arith) })
 
 returns-2 : tie.Need-returns-2
-returns-2 c = (
-  sym (le-leb 5248 (length (c .before .before .before .before .before .before .args .scratch .now)) (omega arith)),
-  record { there = λ e. c .before .before .fill-rows .ensures; untouched = λ e. absurd (true≢false e) },
-)
+returns-2 c =
+    let f = c .before .before .before in
+    served (f .before .before .if1 .left) (f .fill-rows .ensures) (rw (c .if2 .taken) (sym count-0))
+
+returns-3 : tie.Need-returns-3
+returns-3 c =
+    let f = c .before .before .before .before in
+    let t = f .fill-rows .ensures in
+    served (f .before .before .if1 .left) t (count-in _ _ (omega (arith, c .before .if2 .left)) (t .rows))
 
 pub fill-counts-spec : {M : Type 1} → statement M
-fill-counts-spec = tie.close (tie.spec returns (λ c κs. search needs) (λ c. search needs) returns-2)
+fill-counts-spec =
+    tie.close
+    (tie.spec
+    returns
+    (λ c κs. search needs)
+    (λ c. search needs)
+    returns-2
+    (λ c. search needs)
+    (λ c. search needs)
+    returns-3)

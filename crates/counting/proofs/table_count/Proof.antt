@@ -1,39 +1,31 @@
--- `table_count` meets its contract: the first cell of the table has the count, and the first 5,248 numbers are zeroed after it is
--- read.
+-- `table_count` meets its contract: the answer is that of `fill_counts`, and it tells whether there is a table to be zeroed.
 use mathlib.Core.Path.{sym, ap, _∙_}
 use borrow.Author.Needs.{needs}
-use borrow.Author.Tests.{not-true, not-false}
 use Rattle.counting.specs.declared.Counted.the-variants.{Count}
-use Rattle.counting.specs.TableCount.{counted-served, counted-refused, after-refused, asked-room, asked-no-room, asked-still-room, asked-cleared}
+use Rattle.counting.specs.TableCount.{counted-served, counted-refused, after-refused, told-count, told-refused}
+use Rattle.counting.specs.TableCount.{asked-still-room, asked-cleared}
 use Rattle.counting.proofs.table_count.Statement.{statement}
 use Rattle.counting.proofs.table_count.Tie as tie
 
 returns : tie.Need-returns
 returns c =
-    let asked = c .before .before .before in
-    let refused = not-true (asked .fill-counts .result) (c .if1 .taken) in
-    let small = asked-no-room (asked .fill-counts .ensures) refused in
-    (sym (counted-refused _ _ small), asked .fill-counts .ensures .1 .untouched refused ∙ sym (after-refused _ small))
-
-count-in-requires : tie.Need-count-in-requires
-count-in-requires c κs =
-    let asked = c .before .before .before .before in
-    let served = not-false (asked .fill-counts .result) (c .before .if1 .left) in
-    (asked .fill-counts .ensures .1 .there served .rows, asked-still-room (asked .fill-counts .ensures) served)
+    let f = c .before .before .before .before in
+    let small = told-refused _ _ (f .fill-counts .ensures .0) (c .enum-told .given .1) in
+    (sym (counted-refused _ _ small), f .fill-counts .ensures .1 .untouched small ∙ sym (after-refused _ small))
 
 part-clear-u64-end : tie.Need-part-clear-u64-end
 part-clear-u64-end c =
-    let asked = c .before .before .before .before .before in
-    asked-still-room (asked .fill-counts .ensures) (not-false (asked .fill-counts .result) (c .before .before .if1 .left))
+    let (answer, asked) = c .before .before .before .before .before .fill-counts .ensures in
+    asked-still-room asked (told-count _ _ answer (c .before .count .given .1) .0)
 
 returns-2 : tie.Need-returns-2
 returns-2 c =
-    let counted = c .before .before .before .before in
-    let asked = counted .before .before .before .before .before in
-    let served = not-false (asked .fill-counts .result) (counted .before .before .if1 .left) in
-    let zeroed = c .before .before in (
-      ap Count (counted .count-in .ensures) ∙ sym (counted-served _ _ (asked-room (asked .fill-counts .ensures) served)),
-      asked-cleared (asked .fill-counts .ensures) served (zeroed .clear-u64 .last .0) (zeroed .clear-u64 .ensures),
+    let zeroed = c .before .before in
+    let told = zeroed .before .before .before in
+    let (answer, asked) = told .before .before .before .before .fill-counts .ensures in
+    let (room, counted) = told-count _ _ answer (told .count .given .1) in (
+      ap Count counted ∙ sym (counted-served _ _ room),
+      asked-cleared asked room (zeroed .clear-u64 .last .0) (zeroed .clear-u64 .ensures),
     )
 
 pub table-count-spec : {M : Type 1} → statement M
@@ -42,8 +34,9 @@ table-count-spec =
     (tie.spec
     (λ c κs. search needs)
     (λ c. search needs)
+    (λ c. search needs)
+    (λ c. search needs)
     returns
-    count-in-requires
     (λ c. search needs)
     (λ c. search needs)
     part-clear-u64-end

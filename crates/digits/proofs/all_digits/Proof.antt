@@ -1,5 +1,5 @@
--- `all_digits` answers whether every character is a digit: as long as all so far are, the answer is that of the characters from i on.
--- The measure is what is left of the line.
+-- `all_digits` answers whether every character is a digit: as long as all so far are, the answer is that of the characters from i
+-- on. The measure is what is left of the line.
 use mathlib.Core.Path.{_≡_, sym, _∙_}
 use mathlib.Core.Bool.{Bool, true, false, _&&_}
 use mathlib.Core.List.{List}

@@ -1,5 +1,5 @@
--- `put_number` leaves what `putDigits` says: from the back, the digits that are still to be written and what stands from i on make the
--- same buffer at every turn. The measure is the number of digits that are left.
+-- `put_number` leaves what `putDigits` says: from the back, the digits that are still to be written and what stands from i on make
+-- the same buffer at every turn. The measure is the number of digits that are left.
 use mathlib.Core.Path.{_≡_, refl, sym, _∙_}
 use mathlib.Core.List.{List, _++_, append-assoc}
 use Prim.Native.Nat.{ℕ, suc, _/_, _%_, _≤_, _<_}

@@ -1,5 +1,5 @@
--- `value_or_255` answers the character's value, or 255: a character is within a range exactly where its difference to the lowest one,
--- modulo 256, is below the number of characters in it.
+-- `value_or_255` answers the character's value, or 255: a character is within a range exactly where its difference to the lowest
+-- one, modulo 256, is below the number of characters in it.
 use native.Mathlib.Omega.{arith}
 use borrow.Author.Needs.{needs}
 use Rattle.digits.specs.DigitLaws.{value-decimal, value-capital, value-none}

@@ -7,7 +7,7 @@ use borrow.Author.Needs.{needs}
 use borrow.Author.Tests.{lt-ltb, le-ltb}
 use lib.ListN.{length}
 use Rattle.grid.specs.Grid.{scratchSize}
-use Rattle.ranking.specs.Services.{pickList, scratchLeft}
+use Rattle.ranking.specs.Services.{scratchLeft}
 use Rattle.lines.specs.Lines.{shapeOf, shapeCode}
 use Rattle.lines.specs.LineLaws.{refused-shape}
 use Rattle.lines.specs.declared.Shape.the-variants as shape
@@ -29,7 +29,7 @@ module _ (line s out : List ℕ) where
 
   refused-1 : littleLent s out ≡ true
       → (replied.Refused 1 ≡ answerTo (littleLent s out) line) × ((out ≡ outLeft (littleLent s out) line out) × (s ≡ scratchLeft (littleLent s out) s))
-  unfolding answerTo repliedOf outLeft scratchLeft pickList
+  unfolding answerTo repliedOf outLeft scratchLeft
   refused-1 e = rw e (refl, (refl, refl))
 
   enough : EnoughLent s out → littleLent s out ≡ false
@@ -38,7 +38,7 @@ module _ (line s out : List ℕ) where
 
   answered : (r : Replied) (s′ out′ : List ℕ) → EnoughLent s out → Handled (replyTo line) r s s′ out out′
       → (r ≡ answerTo (littleLent s out) line) × ((out′ ≡ outLeft (littleLent s out) line out) × (s′ ≡ scratchLeft (littleLent s out) s))
-  unfolding answerTo outLeft replyOf scratchLeft pickList
+  unfolding answerTo outLeft replyOf scratchLeft
   answered r s′ out′ l h = rw (enough l) (h .told .answer, (h .told .digits, h .zeroed))
 
 refused-line : (line : List ℕ) (number : ℕ) → shape.Refused number ≡ shapeCode (shapeOf line) → replyTo line ≡ refusedAs number

@@ -1,4 +1,5 @@
--- `letters_of` writes the line's letters one after the other: after i turns the first i stand. The measure is the number that is left.
+-- `letters_of` writes the line's letters one after the other: after i turns the first i stand. The measure is the number that is
+-- left.
 use mathlib.Core.Path.{_∙_, sym}
 use Prim.Native.Nat.{_+_, _-_, _*_, _≤_}
 use native.Mathlib.Omega.{arith}

@@ -1,4 +1,5 @@
--- `numbers_of` writes the line's numbers one after the other: after i turns the first i stand. The measure is the number that is left.
+-- `numbers_of` writes the line's numbers one after the other: after i turns the first i stand. The measure is the number that is
+-- left.
 use mathlib.Core.Path.{_∙_, sym}
 use Prim.Native.Nat.{_+_, _-_, _*_, _≤_}
 use native.Mathlib.Omega.{arith}

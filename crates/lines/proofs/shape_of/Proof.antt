@@ -11,12 +11,14 @@ use lib.ListN.{length}
 use Rattle.digits.specs.Digits.{allDigits}
 use Rattle.lines.specs.Kinds.{Kind, kindOf, bytesIn, bytesOf}
 use Rattle.lines.specs.Lines.{field, unfit, fit, shapeOfKind, shapeOf, shapeCode}
-use Rattle.lines.specs.LineLaws.{no-bytes, byte-kind, Proper, bad-none, bad-odd, bad-long, unfit-length, unfit-character, shape-kind, unfit-kind, unfit-kind-length, fit-kind-length}
+use Rattle.lines.specs.LineLaws.{no-bytes, byte-kind, Proper, bad-none, bad-odd, bad-long, unfit-length, unfit-character}
+use Rattle.lines.specs.LineLaws.{shape-kind, unfit-kind, unfit-kind-length, fit-kind-length}
 use Rattle.lines.specs.declared.Shape.the-variants as answer
 use Rattle.lines.proofs.shape_of.Statement.{statement}
 use Rattle.lines.proofs.shape_of.Tie as tie
 
--- What is known once the line's length and characters have passed: b and c are its first two bytes, `bytes` how many the kind wants.
+-- What is known once the line's length and characters have passed: b and c are its first two bytes, `bytes` how many the kind
+-- wants.
 record Passed (line : List ℕ) (b c bytes : ℕ) : Type 0 where
   proper : Proper (length line)
   digits : allDigits line ≡ true

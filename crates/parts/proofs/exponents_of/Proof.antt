@@ -1,5 +1,5 @@
--- `parts::exponents_of` meets its contract. 3^b is odd, so the zeros below the lowest one bit of 2^a × 3^b are a, and shifted right by
--- them it is 3^b; that 323 times the length of 3^b over 512 is b is tested at each b up to 40.
+-- `parts::exponents_of` meets its contract. 3^b is odd, so the zeros below the lowest one bit of 2^a × 3^b are a, and shifted right
+-- by them it is 3^b; that 323 times the length of 3^b over 512 is b is tested at each b up to 40.
 use mathlib.Core.Path.{_≡_, refl, ap, _∙_}
 use mathlib.Core.Bool.{Bool}
 use Prim.Native.Nat.{ℕ, zero, suc, _+_, _-_, _*_, _/_, _%_, _^_, _<_, suc-le-suc}

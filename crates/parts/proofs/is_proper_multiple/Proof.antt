@@ -1,5 +1,5 @@
--- `parts::is_proper_multiple` meets its contract. Of 0 only 0 is a multiple; a proper multiple of any other y is above y, and a number
--- above y is one if dividing by y leaves nothing.
+-- `parts::is_proper_multiple` meets its contract. Of 0 only 0 is a multiple; a proper multiple of any other y is above y, and a
+-- number above y is one if dividing by y leaves nothing.
 use mathlib.Core.Path.{_≡_, sym, _∙_}
 use mathlib.Core.Logic.{_↔_}
 use mathlib.Core.Bool.{true, false}

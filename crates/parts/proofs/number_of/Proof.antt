@@ -1,5 +1,5 @@
--- `parts::number_of` meets its contract. A point past the bounds of a part, or past the digits of 3^b, is 2^64 or more; any other has
--- its rank for a number.
+-- `parts::number_of` meets its contract. A point past the bounds of a part, or past the digits of 3^b, is 2^64 or more; any other
+-- has its rank for a number.
 use mathlib.Core.Path.{_≡_, sym, ap, _∙_}
 use mathlib.Core.Logic.{_⊎_, inl, inr, ⊎-elim}
 use Prim.Native.Nat.{ℕ, _+_, _*_, _/_, _≤_, _<_}

@@ -1,5 +1,5 @@
--- `parts::sum_of` meets its contract. The loop's invariant: the sum so far and that of the numbers that are left make the whole. Where
--- one more entry would pass the largest 64-bit number, the whole does too.
+-- `parts::sum_of` meets its contract. The loop's invariant: the sum so far and that of the numbers that are left make the whole.
+-- Where one more entry would pass the largest 64-bit number, the whole does too.
 use mathlib.Core.Path.{_≡_}
 use mathlib.Core.List.{List}
 use Prim.Native.Nat.{ℕ, suc, _+_, _-_, _^_, _≤_, _<_}
@@ -9,7 +9,7 @@ use lib.ListN.{length, drop, getD, drop-of-length-le}
 use lib.Seq.{drop-cons}
 use borrow.Author.Needs.{needs}
 use borrow.Author.Tests.{lt-ltb, le-ltb}
-use Rattle.parts.specs.Parts.{limit, sumAt, sumOf, pickSum}
+use Rattle.parts.specs.Parts.{limit, sumAt, sumOf}
 use Rattle.parts.specs.declared.Sum.the-variants.{Fits, Over}
 use Rattle.parts.proofs.sum_of.Statement.{statement}
 use Rattle.parts.proofs.sum_of.Tie as tie
@@ -29,7 +29,7 @@ module _ (t ns : List ℕ) (s i v : ℕ) (inv : Summed t ns s i) (h : i < length
       rw add-one (omega arith)
 
   over : 2 ^ 64 - 1 - s < v → Over ≡ sumOf (sumAt t ns)
-  unfolding sumOf pickSum
+  unfolding sumOf
   over l = rw (le-ltb (sumAt t ns) limit (omega (arith, step)))
 
   more : v ≤ 2 ^ 64 - 1 - s → Summed t ns (s + v) (i + 1)
@@ -37,7 +37,7 @@ module _ (t ns : List ℕ) (s i v : ℕ) (inv : Summed t ns s i) (h : i < length
 
 -- No number is left.
 fits : (t ns : List ℕ) (s i : ℕ) → Summed t ns s i → length ns ≤ i → Fits s ≡ sumOf (sumAt t ns)
-unfolding sumOf pickSum sumAt
+unfolding sumOf sumAt
 fits t ns s i inv h =
     let all : sumAt t ns ≡ s = omega (arith, rw (drop-of-length-le ns h) at (inv .whole)) in
     rw (all, lt-ltb s limit (inv .low))

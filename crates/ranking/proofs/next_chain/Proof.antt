@@ -5,7 +5,8 @@ use denote.Floats.{passes}
 use borrow.Author.Needs.{needs}
 use borrow.Author.Tests.{not-true, not-false}
 use Rattle.ranking.specs.Outcomes.{of-weighed}
-use Rattle.ranking.proofs.Answers.{little, little-places, little-scratch, enough, enough-refused, next-bad, next-over, next-standing}
+use Rattle.ranking.proofs.Answers.{little, little-places, little-scratch, enough, enough-refused, next-bad, next-over}
+use Rattle.ranking.proofs.Answers.{next-standing}
 use Rattle.ranking.proofs.next_chain.Statement.{statement}
 use Rattle.ranking.proofs.next_chain.Tie as tie
 

@@ -3,7 +3,8 @@
 use mathlib.Core.Path.{sym, ap, _∙_}
 use borrow.Author.Needs.{needs}
 use Rattle.ranking.specs.Services.{answerOf}
-use Rattle.ranking.proofs.Answers.{little, little-places, little-scratch, enough, read-chain, read-refused, word-left, word-listed, word-found}
+use Rattle.ranking.proofs.Answers.{little, little-places, little-scratch, enough, read-chain, read-refused, word-left}
+use Rattle.ranking.proofs.Answers.{word-listed, word-found}
 use Rattle.ranking.proofs.read_word.Statement.{statement}
 use Rattle.ranking.proofs.read_word.Tie as tie
 

@@ -1,21 +1,20 @@
 -- Both words are read before either answer: a comparison of good words is their order, and any other is refused.
 use mathlib.Core.Path.{_≡_, sym, _∙_}
-use mathlib.Core.Bool.{Bool, true, false, _&&_}
+use mathlib.Core.Bool.{Bool, true, false, cond, _&&_}
 use borrow.Author.Needs.{needs}
 use Rattle.chains.specs.Words.{Word, reads}
-use Rattle.words.specs.Answers.{pickCompared, orderOf, comparedOf}
+use Rattle.words.specs.Answers.{orderOf, comparedOf}
 use Rattle.words.specs.declared.Compared.the-variants.{Refused}
 use Rattle.words.proofs.compare_words.Statement.{statement}
 use Rattle.words.proofs.compare_words.Tie as tie
 
 -- With p and q the readers' answers.
 module _ (u v : Word) (p q : Bool) (eu : p ≡ reads true u) (ev : q ≡ reads true v) where
-  tested : (t : Bool) → (p && q) ≡ t → comparedOf u v ≡ pickCompared t (orderOf u v) (Refused 7)
+  tested : (t : Bool) → (p && q) ≡ t → comparedOf u v ≡ cond t (orderOf u v) (Refused 7)
   unfolding comparedOf
   tested t e = rw (← eu, ← ev, e)
 
 returns : tie.Need-returns
-unfolding pickCompared
 returns c =
     let r = c .before .before in
     c .in-order .ensures
@@ -23,7 +22,6 @@ returns c =
     (r .before .is-good .ensures) (r .is-good2 .ensures) true (c .before .if1 .taken))
 
 returns-2 : tie.Need-returns-2
-unfolding pickCompared
 returns-2 c =
     let r = c .before in
     sym (tested _ _ (r .before .is-good .result) (r .is-good2 .result)

@@ -10,7 +10,7 @@ use lib.Seq.{drop-cons, drop-length}
 use borrow.Author.Needs.{needs}
 use Rattle.chains.specs.Words.{Word}
 use Rattle.chains.specs.Weight.{weight}
-use Rattle.words.specs.Answers.{pickWeighed, sized, weighedOf}
+use Rattle.words.specs.Answers.{sized, weighedOf}
 use Rattle.words.specs.declared.Weighed.{Weighed}
 use Rattle.words.specs.declared.Weighed.the-variants.{Number, Over}
 use Rattle.words.proofs.Sized.{sized-over, number-is, over-is, drop-less}
@@ -18,7 +18,7 @@ use Rattle.words.proofs.weigh.Statement.{statement}
 use Rattle.words.proofs.weigh.Tie as tie
 
 none-read : (l : Word) → Number 0 ≡ weighedOf (drop (length l) l)
-unfolding weighedOf weight sized pickWeighed
+unfolding weighedOf weight sized
 none-read l = rw drop-length
 
 -- One letter more, the one before what has been read: x is what it gives.

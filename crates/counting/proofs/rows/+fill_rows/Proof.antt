@@ -42,33 +42,13 @@ abbrev fill-rows-below : ℕ → In 1 fill-rows-kinds.ps
 fill-rows-below t =
     and 1 fill-rows-kinds.ps (falls 1 fill-rows-kinds.ps _<_ μ-fill-rows t) fill-rows.Pre
 
-fill-rows-fill-rows-requires : (t : ℕ) → fill-rows-lts.Need-fill-rows-requires (
+returns-2 : (t : ℕ) → fill-rows-lts.Need-returns-2 (
   fill-rows-below t,
   fill-rows.Post,
   fill-row-reads.Asked,
   fill-row-reads.Learnt,
 ) (fill-rows-at t) fill-rows.Post
-fill-rows-fill-rows-requires t c κs =
-    let start = c .before .before .before in
-    (search needs, rows-above (start .args .b + 1) (start .pre .1) (search needs) (add-one (start .args .b)))
-
-fill-rows-fill-row-requires : (t : ℕ) → fill-rows-lts.Need-fill-row-requires (
-  fill-rows-below t,
-  fill-rows.Post,
-  fill-row-reads.Asked,
-  fill-row-reads.Learnt,
-) (fill-rows-at t) fill-rows.Post
-fill-rows-fill-row-requires t c κs =
-    let called = c .before .before .before in
-    lent (called .before .before .before .before .pre .1) (called .before .before .if1 .left) (called .fill-rows .ensures)
-
-fill-rows-returns-2 : (t : ℕ) → fill-rows-lts.Need-returns-2 (
-  fill-rows-below t,
-  fill-rows.Post,
-  fill-row-reads.Asked,
-  fill-row-reads.Learnt,
-) (fill-rows-at t) fill-rows.Post
-fill-rows-returns-2 t c =
+returns-2 t c =
     let called = c .before .before .before .before .before .before in
     let filled = c .before .before in
     back (called .before .before .before .before .pre .1) (called .before .before .if1 .left) (called .fill-rows .ensures)
@@ -85,12 +65,16 @@ pub +fill-rows-spec : {M : Type 1} → statement M
     fill-rows.Post
     (λ c. none (c .before .before .args .scratch .now) (c .if1 .taken))
     (λ c. search needs)
-    (fill-rows-fill-rows-requires t)
+    (λ c κs.
+    let start = c .before .before .before in
+    (search needs, rows-above (start .args .b + 1) (start .pre .1) (search needs) (add-one (start .args .b))))
     (λ c. search needs)
     (λ c. search needs)
     (λ c. search needs)
     (λ c. search needs)
     (λ c. search needs)
-    (fill-rows-fill-row-requires t)
-    (λ c. fill-rows-returns-2 t c .same)
-    (fill-rows-returns-2 t)
+    (λ c κs.
+    let called = c .before .before .before in
+    lent (called .before .before .before .before .pre .1) (called .before .before .if1 .left) (called .fill-rows .ensures))
+    (λ c. returns-2 t c .same)
+    (returns-2 t)

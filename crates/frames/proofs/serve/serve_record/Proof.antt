@@ -11,7 +11,7 @@ use lib.ListN.{length, length-map}
 use Rattle.chains.specs.Bounds.{parts-bound}
 use Rattle.grid.specs.Grid.{scratchSize}
 use Rattle.parts.specs.Parts.{placeOf}
-use Rattle.ranking.specs.Services.{Outcome, refused, gives, pick, pickList, lentScratch, scratchLeft, placedOf, ofRecord}
+use Rattle.ranking.specs.Services.{Outcome, refused, gives, lentScratch, scratchLeft, placedOf, ofRecord}
 use Rattle.ranking.specs.Outcomes.{record-gives}
 use Rattle.ranking.specs.declared.Placed.{Placed}
 use Rattle.ranking.specs.declared.Placed.the-variants as placed
@@ -27,7 +27,7 @@ use Rattle.frames.proofs.serve.serve_record.Tie as tie
 -- The record l was read with the scratch s, and x answered.
 module _ (l s : List ℕ) (x : Placed) (room : scratchSize ≤ length s) (e : x ≡ placedOf (lentScratch s (ofRecord l))) where
   own : x ≡ placedOf (ofRecord l)
-  unfolding lentScratch pick
+  unfolding lentScratch
   own = rw (le-ltb (length s) scratchSize room) at e
 
   at-place : (n i : ℕ) → x ≡ placed.At n i → (length l ≤ 64) × (chainReply (ofRecord l) ≡ servedWith (chainDigits n i l))
@@ -59,7 +59,7 @@ module _ (l s : List ℕ) (x : Placed) (room : scratchSize ≤ length s) (e : x 
 
   handled : (y : Reply) (r : Replied) (s′ out out′ : List ℕ) → chainReply (ofRecord l) ≡ y → s′ ≡ scratchLeft (ltb (length s) scratchSize) s
       → Told y r out out′ → Handled (chainReply (ofRecord l)) r s s′ out out′
-  unfolding scratchLeft pickList
+  unfolding scratchLeft
   handled y r s′ out out′ f left told =
       record { told = rw f told; zeroed = rw (le-ltb (length s) scratchSize room) at left }
 

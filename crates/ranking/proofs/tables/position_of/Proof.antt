@@ -1,23 +1,21 @@
 -- `position_of` meets its contract: the table is filled where there is room, and zeroing it leaves what zeroing the scratch would.
 use mathlib.Core.Path.{_∙_}
 use borrow.Author.Needs.{needs}
-use Rattle.ranking.proofs.Answers.{filled-counts, filled-table, filled-again}
+use Rattle.ranking.proofs.Answers.{filled-table, filled-again}
 use Rattle.ranking.proofs.tables.position_of.Statement.{statement}
 use Rattle.ranking.proofs.tables.position_of.Tie as tie
 
 rank-of-requires : tie.Need-rank-of-requires
 rank-of-requires c κs =
     let s = c .before .before .before .before .before .before .before in
-    record {
-      counts = filled-table (filled-counts (c .before .before .before .fill-counts .ensures) (s .pre .room)) (s .pre .room);
-      member = s .pre .member;
-    }
+    record { counts = filled-table (c .before .before .before .fill-counts .ensures .1) (s .pre .room); member = s .pre .member }
 
 returns : tie.Need-returns
 returns c =
-    let s = c .before .before .before .before .before .before .before .before .before .before .before .before in
-    let f = filled-counts (c .before .before .before .before .before .before .before .before .fill-counts .ensures) (s .pre .room) in
-    (c .before .before .before .before .rank-of .ensures, c .before .before .clear .ensures ∙ filled-again _ _ (f .later))
+    let r = c .before .before .before .before in
+    let f = r .before .before .before .before in
+    let s = f .before .before .before .before in
+    (r .rank-of .ensures, c .before .before .clear .ensures ∙ filled-again (f .fill-counts .ensures .1) (s .pre .room))
 
 pub position-of-spec : {M : Type 1} → statement M
 position-of-spec =

@@ -1,5 +1,5 @@
--- What is written from the part p on is the end of the word, and the parts below p give the rest of it: the walk from p goes on from
--- those letters to the whole word. This is the invariant; it is the definition's own line that one turn follows.
+-- What is written from the part p on is the end of the word, and the parts below p give the rest of it: the walk from p goes on
+-- from those letters to the whole word. This is the invariant; it is the definition's own line that one turn follows.
 use mathlib.Core.Path.{_≡_, refl, sym, ap, subst, _∙_}
 use mathlib.Core.List.{List, _∷_}
 use Prim.Native.Nat.{ℕ, _+_, _-_, _≤_, _<_}

@@ -11,7 +11,7 @@ use borrow.Author.Needs.{needs}
 use borrow.Author.Tests.{lt-ltb, le-ltb, eq-eqb, ne-eqb}
 use Rattle.chains.specs.Words.{Word}
 use Rattle.chains.specs.Listing.{before}
-use Rattle.words.specs.Answers.{pickCompared, orderOf}
+use Rattle.words.specs.Answers.{orderOf}
 use Rattle.words.specs.declared.Compared.the-variants.{Earlier, Same, Later}
 use Rattle.words.proofs.order.in_order.Statement.{statement}
 use Rattle.words.proofs.order.in_order.Tie as tie
@@ -19,30 +19,30 @@ use Rattle.words.proofs.order.in_order.Tie as tie
 -- ---- the order by the first letters
 
 less : (x y : ℕ) (u v : Word) → x < y → orderOf (x ∷ u) (y ∷ v) ≡ Earlier
-unfolding orderOf before pickCompared
+unfolding orderOf before
 less x y u v h = rw (lt-ltb x y h)
 
 more : (x y : ℕ) (u v : Word) → y < x → orderOf (x ∷ u) (y ∷ v) ≡ Later
-unfolding orderOf before pickCompared
+unfolding orderOf before
 more x y u v h = rw (le-ltb x y (omega arith), ne-eqb x y (omega arith), lt-ltb y x h)
 
 same : (x y : ℕ) (u v : Word) → x ≡ y → orderOf (x ∷ u) (y ∷ v) ≡ orderOf u v
-unfolding orderOf before pickCompared
+unfolding orderOf before
 same x y u v e = rw (e, le-ltb y y (omega arith), eq-eqb y y refl)
 
 -- ---- what is left behind i equal letters
 
 module _ (u v : Word) (i : ℕ) (left : orderOf u v ≡ orderOf (drop i u) (drop i v)) where
   u-longer : i < length u → length v ≤ i → Later ≡ orderOf u v
-  unfolding orderOf before pickCompared
+  unfolding orderOf before
   u-longer h k = rw (left, drop-cons u i 0 h, drop-of-length-le v k)
 
   v-longer : length u ≤ i → i < length v → Earlier ≡ orderOf u v
-  unfolding orderOf before pickCompared
+  unfolding orderOf before
   v-longer h k = rw (left, drop-cons v i 0 k, drop-of-length-le u h)
 
   both-end : length u ≤ i → length v ≤ i → Same ≡ orderOf u v
-  unfolding orderOf before pickCompared
+  unfolding orderOf before
   both-end h k = rw (left, drop-of-length-le v k, drop-of-length-le u h)
 
   module _ (h : i < length u) (k : i < length v) where

@@ -1,6 +1,6 @@
 -- The three tests in the order of the refusals, each as the function before it answers; the table's sum is the sum of the parts.
 use mathlib.Core.Path.{_≡_, refl, sym, ap, _∙_}
-use mathlib.Core.Bool.{Bool, true, false, _||_}
+use mathlib.Core.Bool.{Bool, true, false, cond, _||_}
 use mathlib.Core.List.{List}
 use Prim.Native.Nat.{ℕ}
 use native.Mathlib.Omega.{arith}
@@ -10,9 +10,9 @@ use borrow.Author.Needs.{needs}
 use borrow.Author.Tests.{not-true, not-false, ltb-true, ltb-false, le-leb, lt-leb}
 use Rattle.chains.specs.Chains.{total}
 use Rattle.parts.specs.Table.{parts}
-use Rattle.parts.specs.Parts.{limit, sumAt, pickSum, sumOf}
+use Rattle.parts.specs.Parts.{limit, sumAt, sumOf}
 use Rattle.parts.specs.declared.Sum.the-variants.{Fits, Over}
-use Rattle.words.specs.Records.{recordParts, beyond, chainedTest, pickJudged, judgedOf}
+use Rattle.words.specs.Records.{recordParts, beyond, chainedTest, judgedOf}
 use Rattle.words.specs.RecordLaws.{neither, record-sum}
 use Rattle.words.specs.declared.Judged.the-variants.{Sum, Refused}
 use Rattle.words.proofs.records.judge.Statement.{statement}
@@ -21,7 +21,7 @@ use Rattle.words.proofs.records.judge.Tie as tie
 -- o is the answer for the numbers, t for the pairs.
 module _ (l : List ℕ) (o : Bool) (eo : o ≡ (ltb 64 (length l) || beyond l)) where
   outside : o ≡ true → Refused 8 ≡ judgedOf l
-  unfolding judgedOf pickJudged
+  unfolding judgedOf
   outside e = rw (← eo, e)
 
   known : o ≡ false → beyond l ≡ false
@@ -29,7 +29,7 @@ module _ (l : List ℕ) (o : Bool) (eo : o ≡ (ltb 64 (length l) || beyond l)) 
 
   module _ (inside : o ≡ false) (t : Bool) (et : t ≡ chainedTest (recordParts l)) where
     unchained : t ≡ false → Refused 9 ≡ judgedOf l
-    unfolding judgedOf pickJudged
+    unfolding judgedOf
     unchained e = rw (← eo, inside, ← et, e)
 
     -- The sum as the table gives it.
@@ -37,23 +37,23 @@ module _ (l : List ℕ) (o : Bool) (eo : o ≡ (ltb 64 (length l) || beyond l)) 
       sum : sumAt table l ≡ total (recordParts l)
       sum = ap (λ (s : List ℕ). sumAt s l) is-parts ∙ record-sum l (known inside)
 
-      judged : judgedOf l ≡ pickJudged (leb limit (sumAt table l)) (Refused 10) (Sum (sumAt table l))
-      unfolding judgedOf pickJudged
+      judged : judgedOf l ≡ cond (leb limit (sumAt table l)) (Refused 10) (Sum (sumAt table l))
+      unfolding judgedOf
       judged = rw (← eo, inside, ← et, chained, sum)
 
       fits : (n : ℕ) → Fits n ≡ sumOf (sumAt table l) → Sum n ≡ judgedOf l
-      unfolding sumOf pickSum pickJudged
+      unfolding sumOf
       fits n e = go (ltb (sumAt table l) limit) refl e
         where
-          go : (b : Bool) → ltb (sumAt table l) limit ≡ b → Fits n ≡ pickSum b (Fits (sumAt table l)) Over → Sum n ≡ judgedOf l
+          go : (b : Bool) → ltb (sumAt table l) limit ≡ b → Fits n ≡ cond b (Fits (sumAt table l)) Over → Sum n ≡ judgedOf l
           go true d f = rw (judged, lt-leb limit (sumAt table l) (ltb-true (sumAt table l) limit d)) cc
           go false d f = let z : _≡_ {A = ℕ} 0 1 = cc in absurd (omega arith)
 
       over : Over ≡ sumOf (sumAt table l) → Refused 10 ≡ judgedOf l
-      unfolding sumOf pickSum pickJudged
+      unfolding sumOf
       over e = go (ltb (sumAt table l) limit) refl e
         where
-          go : (b : Bool) → ltb (sumAt table l) limit ≡ b → Over ≡ pickSum b (Fits (sumAt table l)) Over → Refused 10 ≡ judgedOf l
+          go : (b : Bool) → ltb (sumAt table l) limit ≡ b → Over ≡ cond b (Fits (sumAt table l)) Over → Refused 10 ≡ judgedOf l
           go true d f = let z : _≡_ {A = ℕ} 0 1 = cc in absurd (omega arith)
           go false d f = rw (judged, le-leb limit (sumAt table l) (ltb-false (sumAt table l) limit d))
 

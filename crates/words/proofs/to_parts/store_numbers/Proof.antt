@@ -1,6 +1,6 @@
--- The parts met so far have their numbers in the places from `left` on, before what stood behind the k places; `left` parts are still to
--- come: this is the invariant. A letter left means that a part is to come, so there is a place to store at, and that the point's value is
--- at most the word's: its number is in the table.
+-- The parts met so far have their numbers in the places from `left` on, before what stood behind the k places; `left` parts are
+-- still to come: this is the invariant. A letter left means that a part is to come, so there is a place to store at, and that the
+-- point's value is at most the word's: its number is in the table.
 use mathlib.Core.Path.{_≡_, refl, sym, ap, _∙_}
 use mathlib.Core.Bool.{Bool, true}
 use mathlib.Core.List.{List, [], _∷_, _++_, map}
@@ -21,7 +21,8 @@ use Rattle.words.proofs.Marks.{taken, point, chain-step, marks, marks-c
 use Rattle.words.proofs.to_parts.store_numbers.Statement.{statement}
 use Rattle.words.proofs.to_parts.store_numbers.Tie as tie
 
--- The walk over the word w at the point (a, b), where the letters v are left; l are the places, and `behind` what stood behind the first k.
+-- The walk over the word w at the point (a, b), where the letters v are left; l are the places, and `behind` what stood behind the
+-- first k.
 record Walk (w : Word) (behind : List ℕ) (size : ℕ) (v : Word) (l : List ℕ) (a b left : ℕ) : Type 0 where
   reader : Bool
   read : T (reads reader v)
