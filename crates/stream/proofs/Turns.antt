@@ -2,16 +2,14 @@
 --
 -- In this order: lists; the invariant; the start; a line more; the ends.
 use mathlib.Core.Path.{_≡_, refl, sym, ap, _∙_}
-use mathlib.Core.Bool.{true}
 use mathlib.Core.List.{List, [], _∷_, _++_, append-assoc, append-nil}
-use Prim.Native.Nat.{ℕ, zero, suc, _+_, _-_, _≤_, _<_}
-use native.Mathlib.Nat.{add-assoc}
+use Prim.Native.Nat.{ℕ, _+_, _-_, _≤_, _<_}
 use native.Mathlib.Numerals.{add-one}
 use native.Mathlib.Omega.{arith}
-use lib.ListN.{length, take, drop, getD, length-append, length-take, length-drop, take-append-drop}
-use lib.Seq.{length-take-le, take-all, take-nil, take-take, take-add, take-suc, take-length, take-at, drop-at, getD-drop}
+use lib.ListN.{length, take, drop, getD, length-append, length-drop}
+use lib.Seq.{length-take-le, take-all, take-add, take-suc, take-at, drop-at}
 use Rattle.lent.specs.Lent.{filled, zeros, length-zeros, length-filled}
-use Rattle.lines.specs.Stream.{finished, unfinished, repliesTo, unbroken}
+use Rattle.lines.specs.Stream.{finished, unfinished, repliesTo}
 use Rattle.lines.specs.StreamLaws.{finished-append, unfinished-append, finished-stretch, unfinished-stretch, finished-line, unfinished-line, replies-append, take-first}
 use Rattle.frames.specs.Replies.{replyOf}
 use Rattle.frames.specs.ReplyLaws.{first-515}

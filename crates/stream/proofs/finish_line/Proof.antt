@@ -7,7 +7,6 @@ use lib.ListN.{take}
 use borrow.Author.Needs.{needs}
 use Rattle.frames.specs.Replies.{replyOf}
 use Rattle.frames.specs.ReplyLaws.{first-515}
-use Rattle.stream.specs.Pieces.{Adds}
 use Rattle.stream.proofs.finish_line.Statement.{statement}
 use Rattle.stream.proofs.finish_line.Tie as tie
 

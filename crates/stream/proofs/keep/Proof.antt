@@ -1,6 +1,6 @@
 -- `keep` copies as much of the part as 515 places leave room for: after i turns the first i characters stand behind the k that were kept.
 -- The measure is the number that is left to copy.
-use mathlib.Core.Path.{_≡_, refl, sym, ap, _∙_}
+use mathlib.Core.Path.{_≡_, refl, sym, _∙_}
 use mathlib.Core.Bool.{Bool, true, false}
 use mathlib.Core.List.{List, _++_}
 use Prim.Native.Nat.{ℕ, _+_, _-_, _≤_, _<_, min}
@@ -9,8 +9,8 @@ use native.Mathlib.Omega.{arith}
 use borrow.Author.Needs.{needs}
 use borrow.Author.Tests.{leb-true, leb-false}
 use lib.Dec.{leb}
-use lib.ListN.{length, take, drop, set, getD, length-take, length-append, length-set}
-use lib.Seq.{paste, paste-zero, paste-suc, take-paste, drop-paste, length-paste, take-all, take-append-add, drop-drop, length-take-le}
+use lib.ListN.{length, take, set, getD, length-take, length-append, length-set}
+use lib.Seq.{paste, paste-zero, paste-suc, take-paste, drop-paste, take-all, take-append-add, drop-drop, length-take-le}
 use Rattle.stream.specs.Pieces.{Keeps}
 use Rattle.stream.proofs.keep.Statement.{statement}
 use Rattle.stream.proofs.keep.Tie as tie
