@@ -1,6 +1,6 @@
--- How large a chain, its word and the points of its walk can be: document 01, 'Parts and chains'.
--- In order: the letters of a word that a reader takes; the parts of a word and of a chain; the letters of a chain's word; the points
--- of the walk. A bound on letters or parts takes any power of two: with 2^64 a chain has at most 64 parts, and its word 64 letters.
+-- How large a chain, its word and the points of its walk can be: document 01, 'Parts and chains'. In order: the letters of a word
+-- that a reader takes; the parts of a word and of a chain; the letters of a chain's word; the points of the walk. A bound on
+-- letters or parts takes any power of two: with 2^64 a chain has at most 64 parts, and its word 64 letters.
 use mathlib.Core.Path.{_≡_, refl, sym, ap, _∙_}
 use mathlib.Core.Logic.{⊎-elim}
 use mathlib.Core.Bool.{Bool, true, false, _&&_}

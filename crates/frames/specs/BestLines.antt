@@ -1,8 +1,8 @@
--- Demand 3, line by line: a fit line of kind 02 is served with the best chain of its n within its limits, by its prices, and the price;
--- it is refused with 5 exactly where no chain is within the limits, and with nothing else.
+-- Demand 3, line by line: a fit line of kind 02 is served with the best chain of its n within its limits, by its prices, and the
+-- price; it is refused with 5 exactly where no chain is within the limits, and with nothing else.
 --
--- In this order: served and refused (`best-served`, `best-refused`); what the reply is read back as, and what it leads to, as demand 2
--- asks.
+-- In this order: served and refused (`best-served`, `best-refused`); what the reply is read back as, and what it leads to, as
+-- demand 2 asks.
 use mathlib.Core.Path.{_≡_, refl, sym, _∙_}
 use mathlib.Core.Logic.{_↔_}
 use mathlib.Core.List.{List, _++_, map}

@@ -1,5 +1,5 @@
--- The reply to a line, from the line's characters alone: document 01, 'Frames' and 'What a refused line or call gets'. It is a function
--- of the line: neither the lines before it nor what the lent memory held has a part in it.
+-- The reply to a line, from the line's characters alone: document 01, 'Frames' and 'What a refused line or call gets'. It is a
+-- function of the line: neither the lines before it nor what the lent memory held has a part in it.
 --
 -- In this order: replies and their digits; the reply to a line; what a call answers and leaves behind.
 -- Definitions only. The theory is in ReplyLaws, and that the services' outcomes are 003's chains in the crates of the services.

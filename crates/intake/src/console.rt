@@ -1,6 +1,6 @@
-// Standard input answered to standard output: document 01, 'Frames'. What is answered is the crate stream's; here are the calls that read
-// and write, of which no contract can say which bytes they move. Whatever a read brings is answered and written before the next read, so
-// that a person at a pipe gets a reply to each line. Memory does not grow with the input.
+// Standard input answered to standard output: document 01, 'Frames'. What is answered is the crate stream's; here are the calls
+// that read and write, of which no contract can say which bytes they move. Whatever a read brings is answered and written before
+// the next read, so that a person at a pipe gets a reply to each line. Memory does not grow with the input.
 use libc::STDIN_FILENO;
 use libc::STDOUT_FILENO;
 ghost use Prim.Native.Nat.{_≤_, _<_};
@@ -15,8 +15,8 @@ fn was_interrupted(moved: isize) -> bool {
     false
 }
 
-// Writes all of the bytes, and answers whether that succeeded. A loop has to end, so it counts its turns down from a number that no run
-// uses up.
+// Writes all of the bytes, and answers whether that succeeded. A loop has to end, so it counts its turns down from a number that no
+// run uses up.
 fn write_all(bytes: &[u8]) -> bool {
     let mut done = 0;
     let mut turns = u64::MAX;
@@ -160,8 +160,8 @@ fn answer_all(block: &mut [u8], kept: &mut [u8], scratch: &mut [u64], out: &mut 
     }
 }
 
-// Answers standard input: reads it in blocks of 65,536 bytes, and writes a reply for each line. A read or a write that fails is told on
-// standard error and ends it.
+// Answers standard input: reads it in blocks of 65,536 bytes, and writes a reply for each line. A read or a write that fails is
+// told on standard error and ends it.
 pub fn answer_input() {
     let mut block = io::large_buffer();
     let mut out = io::large_buffer();

@@ -1,5 +1,5 @@
--- What a call that answers a block of a file leaves: document 01, 'Frames'. The lines of a file and the replies to them are defined in the
--- crate lines (Stream), the reply to one line in the crate frames (Replies).
+-- What a call that answers a block of a file leaves: document 01, 'Frames'. The lines of a file and the replies to them are defined
+-- in the crate lines (Stream), the reply to one line in the crate frames (Replies).
 --
 -- In this order: what must be lent; the replies in `out`; the answer to a block; the answer at the end of a file.
 -- Definitions only; what all calls write together is in Sessions.
@@ -14,7 +14,8 @@ use Rattle.stream.specs.declared.Fed.{Fed}
 
 -- ---- what must be lent
 
--- How many places of each are enough. k is how many characters were kept of a line; a reply and its byte 10 take 515 places of `out`.
+-- How many places of each are enough. k is how many characters were kept of a line; a reply and its byte 10 take 515 places of
+-- `out`.
 pub record Enough (kept k scratch out : ℕ) : Type 0 where
   pub kept-lent : 515 ≤ kept
   pub line-kept : k ≤ 515
@@ -39,8 +40,8 @@ pub record Wrote (lines : List (List ℕ)) (entry exit : List ℕ) (n : ℕ) : T
 
 -- ---- the answer to a block
 
--- `line` was read before the block, in which the call goes as far as `used` says: it writes the replies to the lines that end there. How
--- far it goes is left to it, but it stops before the end of the block only where `out` has no room for another reply.
+-- `line` was read before the block, in which the call goes as far as `used` says: it writes the replies to the lines that end
+-- there. How far it goes is left to it, but it stops before the end of the block only where `out` has no room for another reply.
 pub record Goes (line block outEntry outExit : List ℕ) (used written : ℕ) : Type 0 where
   pub within : used ≤ length block
   pub stops : used < length block → length outEntry < written + 515

@@ -1,5 +1,5 @@
--- All calls on a file together: however the file is cut into blocks, and however much of a block each call uses, what the calls write is
--- one reply for each line of the file, in order.
+-- All calls on a file together: however the file is cut into blocks, and however much of a block each call uses, what the calls
+-- write is one reply for each line of the file, in order.
 --
 -- In this order: a call moves on; what it writes and keeps; the calls on a file; the theorem; what is written, line by line.
 use mathlib.Core.Path.{_≡_, refl, sym, ap, _∙_}
@@ -56,8 +56,8 @@ what-kept line block kept keptExit out outExit r a = rw (a .keeps, a .count) (fi
 
 -- ---- the calls on a file
 
--- `line` was kept before; `pieces` is what each call uses of its block; `written` is what all of them write. A call on a block hands what
--- it keeps to the next one; the last call is the one at the end of the file.
+-- `line` was kept before; `pieces` is what each call uses of its block; `written` is what all of them write. A call on a block
+-- hands what it keeps to the next one; the last call is the one at the end of the file.
 pub data Session : List ℕ → List (List ℕ) → List ℕ → Type 0 where
   end-call : (line out exit : List ℕ) (n : ℕ) → Wrote (lastLine line) out exit n → Session line [] (take n exit)
   block-call : (line block kept keptExit out outExit : List ℕ) (r : Fed) (pieces : List (List ℕ)) (written : List ℕ)

@@ -1,6 +1,6 @@
-// Answering a file of lines block by block: document 01, 'Frames'. A line ends at byte 10; each reply is followed by a byte 10. Of a line
-// that a block does not end, the first 515 characters are kept for the next block: a line that long is refused whatever follows.
-// Every public function here takes any input.
+// Answering a file of lines block by block: document 01, 'Frames'. A line ends at byte 10; each reply is followed by a byte 10. Of
+// a line that a block does not end, the first 515 characters are kept for the next block: a line that long is refused whatever
+// follows. Every public function here takes any input.
 use frames::Replied;
 ghost use mathlib.Core.Path.{_≡_};
 ghost use mathlib.Core.Bool.{true, false};
@@ -13,8 +13,8 @@ ghost use Rattle.frames.specs.Replies.{replyOf};
 ghost use Rattle.stream.specs.Answers.{Enough, Goes, BlockAnswer, EndAnswer};
 ghost use Rattle.stream.specs.Pieces.{LineEnd, Later, Keeps, Adds, digitsTold};
 
-// How much of a block was used, how many characters are kept of the line that it leaves unfinished, and how many bytes of replies were
-// written.
+// How much of a block was used, how many characters are kept of the line that it leaves unfinished, and how many bytes of replies
+// were written.
 pub struct Fed {
     pub used: usize,
     pub kept: usize,
@@ -166,11 +166,12 @@ fn clear_behind(kept: &mut [u8], n: usize)
     lent::clear_u8(&mut kept[n..515]);
 }
 
-// Answers a block of a file. The first k of `kept` hold what was kept of the line that the block goes on with, nothing at the start of a
-// file. `out` gets the replies to the lines that end in the block, as many as there is room for: 515 bytes are asked for each, which take
-// the longest reply. What the answer says to be used of the block is done with; the rest of it is for the next call. `kept` gets the first
-// 515 characters of the line that is left unfinished, then zeros up to 515; the scratch gets zeros up to 5,248; both keep what stands
-// after. Where less than 5,248 of scratch, 515 of kept or 515 of out is lent, or k is above 515, nothing is touched.
+// Answers a block of a file. The first k of `kept` hold what was kept of the line that the block goes on with, nothing at the start
+// of a file. `out` gets the replies to the lines that end in the block, as many as there is room for: 515 bytes are asked for each,
+// which take the longest reply. What the answer says to be used of the block is done with; the rest of it is for the next call.
+// `kept` gets the first 515 characters of the line that is left unfinished, then zeros up to 515; the scratch gets zeros up to
+// 5,248; both keep what stands after. Where less than 5,248 of scratch, 515 of kept or 515 of out is lent, or k is above 515,
+// nothing is touched.
 pub fn answer_block(
     block: &[u8],
     kept: &mut [u8],
@@ -193,8 +194,8 @@ pub fn answer_block(
     fed
 }
 
-// Answers what is kept at the end of a file: a line, unless it is empty. Tells how many bytes were written. The scratch gets zeros up to
-// 5,248. Where less is lent than `answer_block` asks for, 0 is told and nothing is touched.
+// Answers what is kept at the end of a file: a line, unless it is empty. Tells how many bytes were written. The scratch gets zeros
+// up to 5,248. Where less is lent than `answer_block` asks for, 0 is told and nothing is touched.
 pub fn answer_end(kept: &[u8], k: usize, scratch: &mut [u64], out: &mut [u8]) -> usize
     ensures { λ r. ⌜ EndAnswer (now (kept .entry)) k (now (scratch .entry)) (now (scratch .exit)) (now (out .entry)) (now (out .exit)) r ⌝ }
 {
