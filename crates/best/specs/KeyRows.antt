@@ -6,7 +6,7 @@ use mathlib.Core.Path.{_≡_, refl, sym, ap, _∙_}
 use mathlib.Core.Logic.{_⊎_, inl, inr, ⊎-elim}
 use mathlib.Core.Bool.{Bool, true, false}
 use mathlib.Core.List.{List}
-use Prim.Native.Nat.{ℕ, suc, _+_, _-_, _*_, _/_, _^_, _≤_, _<_, min}
+use Prim.Native.Nat.{ℕ, suc, _+_, _-_, _*_, _/_, _%_, _^_, _≤_, _<_, min}
 use native.Mathlib.Nat.{
   eq-or-lt-of-le,
   le-div-iff-mul-le,
@@ -25,6 +25,7 @@ use lib.Seq.{getD-set-same, getD-set-other, drop-set-lt, drop-drop, getD-drop}
 use borrow.Rule.Slice.PartMut.{midOf, putMid}
 use Rattle.grid.specs.Grid.{Meaning, RowFrom, RowAsked, RowFilled, RowsAsked, RowsFilled}
 use Rattle.grid.specs.Rests.{half-of-rest, third-of-rest, rest-dead, rest-at-top}
+use Rattle.grid.specs.Masks.{onesOf, zerosOf, ones-bit, zeros-bit}
 use Rattle.grid.specs.Fill.{rows-above, column, asked-still, read-above, row-lent, row-more}
 use Rattle.best.specs.KeyTable.{
   noKey,
@@ -34,11 +35,10 @@ use Rattle.best.specs.KeyTable.{
   cell-at-most,
   cell-dead,
   cell-at-1,
-  uncut,
-  CellAsked,
-  CellBy,
-  uncut-low,
-  cell-step,
+  pick,
+  pick-low,
+  after-by-bits,
+  free-by-bits,
 }
 
 -- ---- a run with no word
@@ -75,11 +75,10 @@ pub record BelowAsked (costs : List ℕ) (A B b m q start right : ℕ) (part : L
   pub filled : RowFrom (keyCell costs A B) b m start part
   pub first : right ≡ keyCell costs A B start b false (m / 2 ^ start)
 
--- The columns from k on are filled, and `after`, once cut, is the second number of column k.
+-- The columns from k on are filled, and `after` is the second number of column k.
 pub record Below (costs : List ℕ) (A B b m start : ℕ) (entry part : List ℕ) (k after : ℕ) : Type 0 where
   pub filled : RowFilled (keyCell costs A B) b m k entry part
-  pub number : min noKey after ≡ keyCell costs A B k b false (m / 2 ^ k)
-  pub low : after ≤ 2 * noKey
+  pub number : after ≡ keyCell costs A B k b false (m / 2 ^ k)
   pub within : k ≤ start
 
 module _ {costs : List ℕ} {A B b m q start right : ℕ} {entry : List ℕ} (asked : BelowAsked costs A B b m q start right entry) where
@@ -88,16 +87,13 @@ module _ {costs : List ℕ} {A B b m q start right : ℕ} {entry : List ℕ} (as
 
   pub below-none : Below costs A B b m start entry entry start right
   below-none =
-      let most = cell-at-most costs A B start b false (m / 2 ^ start) in
-      record {
-        filled = record { row = asked .filled; same = refl; later = refl };
-        number = omega (arith, asked .first);
-        low = omega (arith, asked .first);
-        within = omega arith;
-      }
+      record { filled = record { row = asked .filled; same = refl; later = refl }; number = asked .first; within = omega arith }
 
   -- Column j is next.
   module _ {part : List ℕ} {k after : ℕ} (s : Below costs A B b m start entry part k after) (j : ℕ) (e : k ≡ suc j) where
+    abbrev above : ℕ
+    above = getD part (128 + 2 * j) 0
+
     two-left : 2 ≤ m / 2 ^ j
     two-left =
         let p : 2 ^ suc j ≤ 2 ^ start = pow-mono (omega (arith, s .within)) in
@@ -109,33 +105,46 @@ module _ {costs : List ℕ} {A B b m q start right : ℕ} {entry : List ℕ} (as
     pub below-room : 256 ≤ length part
     below-room = omega (arith, s .filled .same, asked .asked .room-above two)
 
-    third-is : getD part (128 + 2 * j) 0 ≡ G j (suc b) true (m / 2 ^ j / 3)
-    third-is =
+    above-is : above ≡ G j (suc b) true (m / 2 ^ j / 3)
+    above-is =
         read-above G j (asked-still G (asked .asked) (s .filled)) two (omega (arith, s .within, asked .last))
         ∙ rw (asked .asked .third, third-of-rest)
 
-    above-low : getD part (128 + 2 * j) 0 ≤ noKey
-    above-low = omega (arith, third-is, cell-at-most costs A B j (suc b) true (m / 2 ^ j / 3))
+    after-is : after ≡ G (suc j) b false (m / 2 ^ j / 2)
+    after-is = s .number ∙ rw (e, half-of-rest)
 
-    pub below-asked : CellAsked costs (m / 2 ^ j) (q / 2 ^ j) after (getD part (128 + 2 * j) 0)
-    below-asked = record { third = rw (asked .asked .third, third-of-rest); right = s .low; above = above-low; low = asked .low }
+    -- No sum wraps.
+    pub above-fits : (l : ℕ) → above + getD costs l 0 ≤ 2 * noKey
+    above-fits l = omega (arith, above-is, cell-at-most costs A B j (suc b) true (m / 2 ^ j / 3), asked .low .each l)
 
-    cell-is : (f : Bool) → min noKey (uncut costs f (m / 2 ^ j) after (getD part (128 + 2 * j) 0)) ≡ G j b f (m / 2 ^ j)
-    cell-is f =
-        rw third-is (sym (cell-step costs A B j b f (m / 2 ^ j) after (asked .low) two-left (s .number ∙ rw (e, half-of-rest))))
+    pub after-fits : (bit : ℕ) → after + pick bit (getD costs 1 0) (getD costs 0 0) ≤ 2 * noKey
+    after-fits bit =
+        omega (
+          arith,
+          after-is,
+          cell-at-most costs A B (suc j) b false (m / 2 ^ j / 2),
+          pick-low bit _ _ noKey (asked .low .each 1) (asked .low .each 0),
+        )
 
-    -- The numbers x and y of column j, cut to x′ and y′, are stored.
-    pub below-more : {x y x′ y′ : ℕ} → CellBy costs (m / 2 ^ j) after (getD part (128 + 2 * j) 0) x y → x′ ≡ min noKey x → y′ ≡ min noKey y
-        → Below costs A B b m start entry (set (set part (2 * j + 1) y′) (2 * j) x′) j y
-    below-more {x′ = x′} {y′ = y′} c ex ey =
+    -- The numbers x and y of column j, chosen by bits of the masks, are stored.
+    pub below-more : {x y : ℕ} → m < 2 ^ 64
+        → y
+        ≡ min (after + pick (m / 2 ^ j % 2) (getD costs 1 0) (getD costs 0 0))
+        (min noKey (pick (onesOf m q / 2 ^ j % 2) (above + getD costs 3 0) noKey))
+        → x ≡ min y (pick (zerosOf m q / 2 ^ j % 2) (above + getD costs 2 0) noKey)
+        → Below costs A B b m start entry (set (set part (2 * j + 1) y) (2 * j) x) j y
+    below-more {x} {y} fits ey ex =
+        let last : j < 64 = omega (arith, s .within, asked .last) in
+        let y-is : y ≡ G j b false (m / 2 ^ j)
+        = ey
+        ∙ rw (after-is, above-is, asked .asked .third, ones-bit m j) (sym (after-by-bits costs A B j b (m / 2 ^ j) (asked .low) two-left)) in
+        let x-is : x ≡ G j b true (m / 2 ^ j)
+        = ex
+        ∙ rw (y-is, above-is, asked .asked .third, zeros-bit m j fits last)
+        (sym (free-by-bits costs A B j b (m / 2 ^ j) (asked .low) two-left)) in
         record {
-          filled =
-              column G b m j k entry part x′ y′ e (omega (arith, s .within, asked .last)) (asked .asked .room)
-              (ex ∙ rw (c .free) (cell-is true))
-              (ey ∙ rw (c .after) (cell-is false))
-              (s .filled);
-          number = rw (c .after) (cell-is false);
-          low = rw (c .after) (uncut-low costs false (m / 2 ^ j) after _ above-low (asked .low));
+          filled = column G b m j k entry part x y e (omega arith) (asked .asked .room) x-is y-is (s .filled);
+          number = y-is;
           within = omega (arith, s .within);
         }
 
