@@ -3,8 +3,9 @@
 -- A key is parts × 2^32 + price, so the least key has the fewest parts and among those the lowest price (document 01, 'Services and
 -- memory'). `noKey` stands for no word: it is above every key of a chain below 2^64.
 --
--- In this order: the costs of letters as a list, and the meaning of a cell; a cell where its rest is 0 or its point outside the grid,
--- and where its rest is 1; a cell from the one right of it and the one above it (`cell-step`), and the same by bits, as a row is filled.
+-- In this order: the costs of letters as a list, and the meaning of a cell; a cell where its rest is 0 or its point outside the
+-- grid, and where its rest is 1; a cell from the one right of it and the one above it (`cell-step`), and the same by bits that
+-- choose, as a row is filled (`after-by-bits`, `free-by-bits`).
 use mathlib.Core.Path.{_≡_, refl, ap, fun-ext, _∙_}
 use mathlib.Core.Logic.{_⊎_, ⊎-elim}
 use mathlib.Core.Bool.{Bool, true, false, cond}
@@ -153,18 +154,19 @@ cell-step costs A B a b f m low two =
     h : ℕ
     h = keyCell costs A B (suc a) b false (m / 2)
 
+    beside : ℕ
+    beside = leastKey noKey (costsBy costs) A B false (record { a = suc a; b = b }) (m / 2)
+
     above : ℕ
     above = leastKey noKey (costsBy costs) A B true (record { a = a; b = suc b }) (m / 3)
 
-    beside-is : h ≡ leastKey noKey (costsBy costs) A B false (record { a = suc a; b = b }) (m / 2)
+    beside-is : h ≡ beside
     beside-is = cell-live costs A B (suc a) b false (m / 2) (omega arith)
 
     above-is : 3 ≤ m → keyCell costs A B a (suc b) true (m / 3) ≡ above
     above-is g = cell-live costs A B a (suc b) true (m / 3) (omega arith)
 
-    half : (r : ℕ) → r < 2
-        → min noKey (letterBy costs r + leastKey noKey (costsBy costs) A B false (record { a = suc a; b = b }) (m / 2))
-        ≡ min noKey (h + getD costs r 0)
+    half : (r : ℕ) → r < 2 → min noKey (letterBy costs r + beside) ≡ min noKey (h + getD costs r 0)
     half zero l = omega (arith, beside-is)
     half (suc zero) l = omega (arith, beside-is)
     half (suc (suc r)) l = absurd (omega arith)
@@ -180,7 +182,9 @@ cell-step costs A B a b f m low two =
     third false (suc (suc zero)) e = omega (arith, low .shut)
     third f (suc (suc (suc r))) e = absurd (omega arith)
 
--- The same by bits. A bit chooses the first of two numbers where it is 1.
+-- ---- the same by bits
+
+-- What a bit chooses: the first number where it is 1, the second where it is 0.
 unfoldable pub pick : ℕ → ℕ → ℕ → ℕ
 pick zero x y = y
 pick (suc bit) x y = x
@@ -190,7 +194,8 @@ unfolding pick
 pick-low zero x y k h l = l
 pick-low (suc bit) x y k h l = h
 
--- Both numbers of a cell, where h is the second of the cell right of it and u the first of the cell above it.
+-- Both numbers of a cell, where h is the second of the cell right of it and u the first of the cell above it. The bits are those of
+-- the rest and of the masks of its row (grid, Masks).
 module _ (costs : List ℕ) (A B a b m : ℕ) (low : Low costs) (two : 2 ≤ m) where
   abbrev h : ℕ
   h = keyCell costs A B (suc a) b false (m / 2)
@@ -220,7 +225,8 @@ module _ (costs : List ℕ) (A B a b m : ℕ) (low : Low costs) (two : 2 ≤ m) 
       go (suc (suc zero)) l = omega (arith, low .shut)
       go (suc (suc (suc r))) l = absurd (omega arith)
 
-  pub free-by-bits : keyCell costs A B a b true m ≡ min (keyCell costs A B a b false m) (pick ((2 - m % 3) / 2) (u + getD costs 2 0) noKey)
+  pub free-by-bits : keyCell costs A B a b true m
+      ≡ min (keyCell costs A B a b false m) (pick ((2 - m % 3) / 2) (u + getD costs 2 0) noKey)
   unfolding pick
   free-by-bits = rw (cell-step costs A B a b true m low two, cell-step costs A B a b false m low two) (go (m % 3) (omega arith))
     where

@@ -223,8 +223,9 @@ module _
   -- The smaller one is the least key.
   least-is : leastFrom costs A B free a b rest ≡ min half third
   least-is =
-      let e = sym (cell-live costs A B a b free rest (omega (arith, s .more))) ∙ cell-step costs A B a b free rest (s .keys .low) (s .more) in
-      let e′ : leastFrom costs A B free a b rest ≡ min noKey (min half third) = e ∙ rw (beside-cell, above-cell, place) in
+      let e = cell-step costs A B a b free rest (s .keys .low) (s .more) in
+      let e′ : leastFrom costs A B free a b rest ≡ min noKey (min half third)
+      = sym (cell-live costs A B a b free rest (omega (arith, s .more))) ∙ e ∙ rw (beside-cell, above-cell, place) in
       omega (arith, s .walked .low)
 
   -- The letter l leads to the point (a′, b′).

@@ -1,9 +1,9 @@
 // Filling the table of keys: document 01's scratch, each of its rows lent on as a part that starts in the middle, and filled there by
 // one row step.
 //
-// A row is filled from its last column down, each cell from the one right of it and the one above it. The rest of column a is m >> a,
-// where m is the rest of the row's first column, and q that of the row above. Two masks, made once a row, hold the remainders by three
-// of all its rests, so no cell is divided, and a bit chooses a cost without a branch.
+// A row is filled from its last column down, each cell from the one right of it and the one above it. The rest of column a is
+// m >> a, where m is the rest of the row's first column, and q that of the row above. Two masks, made once a row, hold the
+// remainders by three of all its rests, so no cell is divided, and a bit chooses a cost without a branch.
 //
 // `doublings` and `triplings` are the limits A and B.
 ghost use mathlib.Core.Path.{_≡_};
@@ -62,10 +62,10 @@ fn fill_none(part: &mut [u64], from: usize, end: usize)
 
 // The columns below `start`, where those from `start` on are filled and `right` is the second number of column `start`.
 //
-// Bit a of `ones` is 1 where the remainder by three of column a's rest is 1, bit a of `zeros` where it is 0; grid, Masks, says why. At 1
-// both readers let b rise, by the letter 3; at 0 the first reader alone, by the letter 2; at 2 none. What a rise of b gives is cut at
-// `NONE`, so both numbers are, and no column waits for the cut of the one right of it. The costs are read once, before the loop: so they
-// stay in registers, and every choice is a conditional move.
+// Bit a of `ones` is 1 where the remainder by three of column a's rest is 1, bit a of `zeros` where it is 0 (grid, Masks). At 1
+// both readers let b rise, by the letter 3; at 0 the first reader alone, by the letter 2; at 2 none. What a rise of b gives is cut
+// at `NONE`, so both numbers are, and no column waits for a cut of the one right of it. The costs are read once, before the loop:
+// they stay in registers, and each choice is compiled to a conditional move.
 fn fill_below(
     part: &mut [u64],
     m: u64,

@@ -9,12 +9,11 @@ use Rattle.best.proofs.keys.fill_below.Statement.{statement}
 use Rattle.best.proofs.keys.fill_below.Tie as tie
 
 abbrev Inv-loop : tie.InvT-loop
-Inv-loop part₀ m q b start right costs doublings triplings ones zeros a-rises part-a-rises b-rises part-b-rises after₀ a₀ part after a =
-    Below costs doublings triplings b m start part₀ part a after
+Inv-loop part₀ m q b start right costs A B ones zeros c0 c1 c2 c3 after₀ a₀ part after a =
+    Below costs A B b m start part₀ part a after
 
 abbrev μ-loop : tie.MeasureT-loop
-μ-loop part₀ m q b start right costs doublings triplings ones zeros a-rises part-a-rises b-rises part-b-rises after₀ a₀ part after a =
-    a
+μ-loop part₀ m q b start right costs A B ones zeros c0 c1 c2 c3 after₀ a₀ part after a = a
 
 slice-read-above : tie.Need-slice-read-above Inv-loop μ-loop
 slice-read-above c =
@@ -32,7 +31,8 @@ add-least : tie.Need-add-least Inv-loop μ-loop
 add-least c =
     let l = c .before .before .before .before .before in
     let s = l .before .before .before .before .before .before in
-    omega (arith, c .picked2 .ensures, after-fits (s .pre) (l .loop .inv) (l .loop .a - 1) (omega arith) (s .args .m / 2 ^ (l .loop .a - 1) % 2))
+    let fits = after-fits (s .pre) (l .loop .inv) (l .loop .a - 1) (omega arith) (s .args .m / 2 ^ (l .loop .a - 1) % 2) in
+    omega (arith, c .picked2 .ensures)
 
 add-picked-2 : tie.Need-add-picked-2 Inv-loop μ-loop
 add-picked-2 c =
