@@ -1,7 +1,7 @@
 -- How the key table is filled: what the calls that fill it ask and leave, and the laws by which they do.
 --
--- In this order: a run of cells with no word; the columns of a row below one that is filled; the end of a row, within the limit on
--- doublings or behind it; the rows. The laws over any meaning are in grid, Fill.
+-- In this order: a run of cells with no word; the columns of a row below one that is filled; columns with no word; the end of a row,
+-- within the limit on doublings or behind it; what the rows ask. The laws over any meaning, those of the rows too, are in grid, Fill.
 use mathlib.Core.Path.{_≡_, refl, sym, ap, _∙_}
 use mathlib.Core.Logic.{_⊎_, inl, inr, ⊎-elim}
 use mathlib.Core.Bool.{Bool, true, false}
@@ -10,23 +10,18 @@ use Prim.Native.Nat.{ℕ, suc, _+_, _-_, _*_, _/_, _%_, _^_, _≤_, _<_, min}
 use native.Mathlib.Nat.{
   eq-or-lt-of-le,
   le-div-iff-mul-le,
-  lt-of-not-le,
-  mul-le-mul,
-  pow-le-pow-right,
   pow-suc,
   zero-div,
 }
-use native.Mathlib.Numerals.{add-one}
 use native.Mathlib.Omega.{arith}
 use lib.Count.{leadingZeros, leading-top}
 use lib.ListN.{length, getD, set, drop, length-set}
 use lib.Pow.{pow-mono, pow-pos, shr-le}
-use lib.Seq.{getD-set-same, getD-set-other, drop-set-lt, drop-drop, getD-drop}
-use borrow.Rule.Slice.PartMut.{midOf, putMid}
-use Rattle.grid.specs.Grid.{Meaning, RowFrom, RowAsked, RowFilled, RowsAsked, RowsFilled}
+use lib.Seq.{getD-set-same, getD-set-other, drop-set-lt, drop-drop}
+use Rattle.grid.specs.Grid.{Meaning, RowFrom, RowAsked, RowFilled, RowsAsked}
 use Rattle.grid.specs.Rests.{half-of-rest, third-of-rest, rest-dead, rest-at-top}
 use Rattle.grid.specs.Masks.{onesOf, zerosOf, ones-bit, zeros-bit}
-use Rattle.grid.specs.Fill.{rows-above, column, asked-still, read-above, row-lent, row-more}
+use Rattle.grid.specs.Fill.{column, asked-still, read-above}
 use Rattle.best.specs.KeyTable.{
   noKey,
   Low,
@@ -148,23 +143,13 @@ module _ {costs : List ℕ} {A B b m q start right : ℕ} {entry : List ℕ} (as
           within = omega (arith, s .within);
         }
 
--- ---- the end of a row
+-- ---- columns with no word
 
--- What the row step asks: a row within the limit on triplings, where something is left.
-pub record RowOfKeys (costs : List ℕ) (A B b m q : ℕ) (part : List ℕ) : Type 0 where
-  pub asked : RowAsked (keyCell costs A B) b m q part
-  pub low : Low costs
-  pub some : 1 ≤ m
-  pub within : b ≤ B
-
-module _ {costs : List ℕ} {A B b m q : ℕ} {entry : List ℕ} (asked : RowOfKeys costs A B b m q entry) where
-  abbrev G′ : Meaning
-  G′ = keyCell costs A B
-
+module _ (costs : List ℕ) (A B b m : ℕ) {entry l : List ℕ} where
   -- The columns from k on have no word.
-  dead-columns : (from k : ℕ) (l : List ℕ) → from ≤ 2 * k → NoKeys from 128 entry l → ((i : ℕ) → k ≤ i → Dead A B i b (m / 2 ^ i))
-      → RowFilled G′ b m k entry l
-  dead-columns from k l f n d =
+  dead-columns : (from k : ℕ) → from ≤ 2 * k → NoKeys from 128 entry l → ((i : ℕ) → k ≤ i → Dead A B i b (m / 2 ^ i))
+      → RowFilled (keyCell costs A B) b m k entry l
+  dead-columns from k f n d =
       record {
         row = record {
           free = λ i h u. n .keys (2 * i) (omega arith) (omega arith) ∙ sym (cell-dead costs A B i b true (m / 2 ^ i) (d i h));
@@ -173,6 +158,30 @@ module _ {costs : List ℕ} {A B b m q : ℕ} {entry : List ℕ} (asked : RowOfK
         same = n .same;
         later = n .later;
       }
+
+  -- No column has one: nothing is left, or the row is above the limit.
+  pub dead-row : NoKeys 0 128 entry l → (m ≡ 0) ⊎ (B < b) → RowFilled (keyCell costs A B) b m 0 entry l
+  dead-row n d =
+      dead-columns 0 0 (omega arith) n
+      (λ i h. ⊎-elim (λ (e : m ≡ 0). inl (rw (e, zero-div))) (λ (k : B < b). inr (inr k)) d)
+
+-- ---- the end of a row
+
+-- What the row step asks.
+pub record RowOfKeys (costs : List ℕ) (A B b m q : ℕ) (part : List ℕ) : Type 0 where
+  pub asked : RowAsked (keyCell costs A B) b m q part
+  pub low : Low costs
+
+-- The same of a row within the limit on triplings, where something is left.
+pub record LiveRow (costs : List ℕ) (A B b m q : ℕ) (part : List ℕ) : Type 0 where
+  pub asked : RowAsked (keyCell costs A B) b m q part
+  pub low : Low costs
+  pub some : 1 ≤ m
+  pub within : b ≤ B
+
+module _ {costs : List ℕ} {A B b m q : ℕ} {entry : List ℕ} (asked : LiveRow costs A B b m q entry) where
+  abbrev G′ : Meaning
+  G′ = keyCell costs A B
 
   -- What the columns below `start` ask, where those from there on are filled.
   below-from : {start right : ℕ} {l : List ℕ} → RowFilled G′ b m start entry l → start < 64 → 2 ^ start ≤ m
@@ -198,7 +207,7 @@ module _ {costs : List ℕ} {A B b m q : ℕ} {entry : List ℕ} (asked : RowOfK
     pub end-within : RowFilled G′ b m top entry (set (set l (2 * top + 1) end) (2 * top) end)
     end-within =
         column G′ b m top (suc top) entry l end end refl h (asked .asked .room) (one true) (one false)
-        (dead-columns (2 * top + 2) (suc top) l (omega arith) n (λ i g. inl (rest-dead m (suc top) i hi g)))
+        (dead-columns costs A B b m (2 * top + 2) (suc top) (omega arith) n (λ i g. inl (rest-dead m (suc top) i hi g)))
 
     pub within-asked : BelowAsked costs A B b m q top end (set (set l (2 * top + 1) end) (2 * top) end)
     within-asked = below-from end-within h lo (one false)
@@ -213,7 +222,7 @@ module _ {costs : List ℕ} {A B b m q : ℕ} {entry : List ℕ} (asked : RowOfK
       (a : start ≤ top)
       (n : NoKeys (2 * start) 128 entry l) where
     pub end-beyond : RowFilled G′ b m start entry l
-    end-beyond = dead-columns (2 * start) start l (omega arith) n (λ i g. inr (inl (omega arith)))
+    end-beyond = dead-columns costs A B b m (2 * start) start (omega arith) n (λ i g. inr (inl (omega arith)))
 
     pub beyond-asked : BelowAsked costs A B b m q start noKey l
     beyond-asked =
@@ -234,51 +243,3 @@ top-of m h k =
 pub record RowsOfKeys (costs : List ℕ) (b m : ℕ) (l : List ℕ) : Type 0 where
   pub low : Low costs
   pub asked : RowsAsked b m l
-
--- Where something is left there is a row.
-row-left : {b m : ℕ} {l : List ℕ} → RowsAsked b m l → 1 ≤ m → b < 41
-row-left {b} {m} r some =
-    lt-of-not-le (λ (g : 41 ≤ b). omega (arith, r .below, mul-le-mul some (pow-le-pow-right {n = 3} (omega arith) g)))
-
--- The rows from b on have no word.
-pub dead-rows : (costs : List ℕ) (A B b m : ℕ) {entry l : List ℕ} → NoKeys (128 * b) 5248 entry l → (m ≡ 0) ⊎ (B < b)
-    → RowsFilled (keyCell costs A B) b m entry l
-dead-rows costs A B b m {l = l} n d =
-    record {
-      rows = record {
-        row = λ i h k. record {
-          free = λ j _ u. at (2 * j) i j true h k (omega arith);
-          after-a = λ j _ u. at (2 * j + 1) i j false h k (omega arith);
-        };
-      };
-      same = n .same;
-      later = n .later;
-    }
-  where
-    nothing : (i j : ℕ) → b ≤ i → Dead A B j i (m / 3 ^ (i - b) / 2 ^ j)
-    nothing i j h = ⊎-elim (λ (e : m ≡ 0). inl (rw (e, zero-div, zero-div))) (λ (k : B < b). inr (inr (omega arith))) d
-
-    at : (p i j : ℕ) (f : Bool) → b ≤ i → i < 41 → p < 128 → getD (drop (128 * i) l) p 0 ≡ keyCell costs A B j i f (m / 3 ^ (i - b) / 2 ^ j)
-    at p i j f h k u =
-        getD-drop (128 * i) l p 0
-        ∙ n .keys (128 * i + p) (omega arith) (omega arith)
-        ∙ sym (cell-dead costs A B j i f (m / 3 ^ (i - b) / 2 ^ j) (nothing i j h))
-
--- Row b, where something is left, and those above it.
-module _ {costs : List ℕ} {b m : ℕ} {entry : List ℕ} (r : RowsOfKeys costs b m entry) (some : 1 ≤ m) where
-  pub keys-above : RowsOfKeys costs (b + 1) (m / 3) entry
-  keys-above = record { low = r .low; asked = rows-above (b + 1) (r .asked) (row-left (r .asked) some) (add-one b) }
-
-  module _ (A B : ℕ) {l : List ℕ} (f : RowsFilled (keyCell costs A B) (b + 1) (m / 3) entry l) where
-    pub keys-lent : b ≤ B → RowOfKeys costs A B b m (m / 3) (midOf (128 * b) (length l - 128 * b) l)
-    keys-lent h =
-        record {
-          asked = row-lent (keyCell costs A B) (r .asked) (row-left (r .asked) some) (add-one b) f;
-          low = r .low;
-          some = some;
-          within = h;
-        }
-
-    pub keys-more : {part : List ℕ} → RowFilled (keyCell costs A B) b m 0 (midOf (128 * b) (length l - 128 * b) l) part
-        → RowsFilled (keyCell costs A B) b m entry (putMid (128 * b) (length l - 128 * b) l part)
-    keys-more {part} = row-more (keyCell costs A B) (r .asked) (row-left (r .asked) some) (add-one b) f part

@@ -12,7 +12,7 @@ ghost use lib.ListN.{length};
 ghost use Rattle.grid.specs.Grid.{RowFilled, RowsFilled};
 ghost use Rattle.best.specs.KeyTable.{letterCosts, keyCell, pick};
 ghost use Rattle.best.specs.Chosen.{pricesOf};
-ghost use Rattle.best.specs.KeyRows.{NoKeys, BelowAsked, RowOfKeys, RowsOfKeys};
+ghost use Rattle.best.specs.KeyRows.{NoKeys, BelowAsked, LiveRow, RowOfKeys, RowsOfKeys};
 
 // What a part counts in a key.
 pub const PART: u64 = 1 << 32;
@@ -98,8 +98,8 @@ fn fill_below(
     }
 }
 
-// The row step: one row, in the part that begins at it, the row above at 128. In the column `top` the rest is 1.
-fn fill_row(
+// A row in which something is left, within the limit on triplings. In the column `top` the rest is 1.
+fn fill_live(
     part: &mut [u64],
     m: u64,
     q: u64,
@@ -108,7 +108,7 @@ fn fill_row(
     doublings: usize,
     triplings: usize,
 )
-    requires { ⌜ RowOfKeys (now costs) doublings triplings b m q (now part) ⌝ }
+    requires { ⌜ LiveRow (now costs) doublings triplings b m q (now part) ⌝ }
     ensures { λ _. ⌜ RowFilled (keyCell (now (costs .entry)) doublings triplings) b m 0 (now (part .entry)) (now (part .exit)) ⌝ }
 {
     let top = 63 - u64::leading_zeros(m) as usize;
@@ -125,8 +125,32 @@ fn fill_row(
     }
 }
 
-// The rows from b on, where m is the rest of row b's first column: those above first. Where nothing is left, or b is above its limit,
-// no cell has a word.
+// The row step: one row, in the part that begins at it, the row above at 128. Where nothing is left, or b is above its limit, no
+// cell has a word.
+fn fill_row(
+    part: &mut [u64],
+    m: u64,
+    q: u64,
+    b: usize,
+    costs: &[u64; 6],
+    doublings: usize,
+    triplings: usize,
+)
+    requires { ⌜ RowOfKeys (now costs) doublings triplings b m q (now part) ⌝ }
+    ensures { λ _. ⌜ RowFilled (keyCell (now (costs .entry)) doublings triplings) b m 0 (now (part .entry)) (now (part .exit)) ⌝ }
+{
+    if m == 0 {
+        fill_none(part, 0, 128);
+        return;
+    }
+    if b > triplings {
+        fill_none(part, 0, 128);
+        return;
+    }
+    fill_live(part, m, q, b, costs, doublings, triplings);
+}
+
+// The rows from b on, where m is the rest of row b's first column: the last one first.
 pub fn fill_rows(
     scratch: &mut [u64],
     b: usize,
@@ -138,16 +162,20 @@ pub fn fill_rows(
     requires { ⌜ RowsOfKeys (now costs) b m (now scratch) ⌝ }
     ensures { λ _. ⌜ RowsFilled (keyCell (now (costs .entry)) doublings triplings) b m (now (scratch .entry)) (now (scratch .exit)) ⌝ }
 {
-    let at = 128 * b;
-    if m == 0 {
-        fill_none(scratch, at, 5248);
-        return;
+    let rests = grid::row_rests(m);
+    let mut i = 41;
+    while b < i {
+        i -= 1;
+        let at = 128 * i;
+        let up = i - b;
+        fill_row(
+            &mut scratch[at..],
+            rests[up],
+            rests[up + 1],
+            i,
+            costs,
+            doublings,
+            triplings,
+        );
     }
-    if b > triplings {
-        fill_none(scratch, at, 5248);
-        return;
-    }
-    let q = m / 3;
-    fill_rows(scratch, b + 1, q, costs, doublings, triplings);
-    fill_row(&mut scratch[at..], m, q, b, costs, doublings, triplings);
 }

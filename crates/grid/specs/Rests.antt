@@ -31,6 +31,9 @@ third-of-rest m a = rw (div-div-eq-div-mul m 3 (2 ^ a), div-div-eq-div-mul m (2 
 pub third-of-row : (m i : ℕ) → m / 3 / 3 ^ i ≡ m / 3 ^ suc i
 third-of-row m i = rw (div-div-eq-div-mul m 3 (3 ^ i), ← pow-succ' 3 i)
 
+pub row-above : (m i : ℕ) → m / 3 ^ i / 3 ≡ m / 3 ^ suc i
+row-above m i = rw (div-div-eq-div-mul m (3 ^ i) 3, ← pow-suc 3 i)
+
 pub rest-dead : (m live i : ℕ) → m < 2 ^ live → live ≤ i → m / 2 ^ i ≡ 0
 rest-dead m live i h k = div-eq-of-lt (lt-of-lt-of-le h (pow-mono k))
 
