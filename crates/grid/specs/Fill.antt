@@ -16,7 +16,7 @@ use lib.Seq.{getD-set-same, getD-set-other, set-comm, drop-set-lt, getD-drop, dr
 use borrow.Rule.Slice.PartMut.{midOf, putMid, same-len-mid}
 use Rattle.lent.specs.Parts.{part-lent, part-back, kept-behind}
 use Rattle.grid.specs.Grid.{Meaning, Row, Table, RowAsked, RowFilled, RowsAsked, RowsFilled}
-use Rattle.grid.specs.Rests.{third-of-row, row-above, third-below, below-last-row}
+use Rattle.grid.specs.Rests.{third-of-row, row-above, below-last-row}
 
 -- The rows from i on can be asked for where those from b on can.
 pub rows-from : {b m i : ℕ} {l : List ℕ} → RowsAsked b m l → b ≤ i → i ≤ 41 → RowsAsked i (m / 3 ^ (i - b)) l
@@ -30,10 +30,6 @@ rows-from {b} {m} {i} r p h =
           rw (power, ← mul-assoc (m / 3 ^ (i - b)) (3 ^ (i - b)) (3 ^ b))
           (omega (arith, r .below, mul-le-mul-right (3 ^ b) (div-mul-le-self m (3 ^ (i - b)))));
     }
-
--- The rows above row b can be asked for where those from b on can.
-pub rows-above : {b m : ℕ} {l : List ℕ} (k : ℕ) → RowsAsked b m l → b < 41 → k ≡ suc b → RowsAsked k (m / 3) l
-rows-above {b} {m} k r h e = record { last = omega arith; room = r .room; below = rw e (third-below m b (r .below)) }
 
 module _ (G : Meaning) where
   -- ---- a row
