@@ -1,31 +1,27 @@
 -- How the key table is filled: what the calls that fill it ask and leave, and the laws by which they do.
 --
--- In this order: a run of cells with no word; the columns of a row below one that is filled; the end of a row, within the limit on
--- doublings or behind it; the rows. The laws over any meaning are in grid, Fill.
+-- In this order: a run of cells with no word; the columns of a row below one that is filled; columns with no word; the end of a row,
+-- within the limit on doublings or behind it; what the rows ask. The laws over any meaning, those of the rows too, are in grid, Fill.
 use mathlib.Core.Path.{_≡_, refl, sym, ap, _∙_}
 use mathlib.Core.Logic.{_⊎_, inl, inr, ⊎-elim}
 use mathlib.Core.Bool.{Bool, true, false}
 use mathlib.Core.List.{List}
-use Prim.Native.Nat.{ℕ, suc, _+_, _-_, _*_, _/_, _^_, _≤_, _<_, min}
+use Prim.Native.Nat.{ℕ, suc, _+_, _-_, _*_, _/_, _%_, _^_, _≤_, _<_, min}
 use native.Mathlib.Nat.{
   eq-or-lt-of-le,
   le-div-iff-mul-le,
-  lt-of-not-le,
-  mul-le-mul,
-  pow-le-pow-right,
   pow-suc,
   zero-div,
 }
-use native.Mathlib.Numerals.{add-one}
 use native.Mathlib.Omega.{arith}
 use lib.Count.{leadingZeros, leading-top}
 use lib.ListN.{length, getD, set, drop, length-set}
 use lib.Pow.{pow-mono, pow-pos, shr-le}
-use lib.Seq.{getD-set-same, getD-set-other, drop-set-lt, drop-drop, getD-drop}
-use borrow.Rule.Slice.PartMut.{midOf, putMid}
-use Rattle.grid.specs.Grid.{Meaning, RowFrom, RowAsked, RowFilled, RowsAsked, RowsFilled}
+use lib.Seq.{getD-set-same, getD-set-other, drop-set-lt, drop-drop}
+use Rattle.grid.specs.Grid.{Meaning, RowFrom, RowAsked, RowFilled, RowsAsked}
 use Rattle.grid.specs.Rests.{half-of-rest, third-of-rest, rest-dead, rest-at-top}
-use Rattle.grid.specs.Fill.{rows-above, column, asked-still, read-above, row-lent, row-more}
+use Rattle.grid.specs.Masks.{onesOf, zerosOf, ones-bit, zeros-bit}
+use Rattle.grid.specs.Fill.{column, asked-still, read-above}
 use Rattle.best.specs.KeyTable.{
   noKey,
   Low,
@@ -34,11 +30,10 @@ use Rattle.best.specs.KeyTable.{
   cell-at-most,
   cell-dead,
   cell-at-1,
-  uncut,
-  CellAsked,
-  CellBy,
-  uncut-low,
-  cell-step,
+  pick,
+  pick-low,
+  after-by-bits,
+  free-by-bits,
 }
 
 -- ---- a run with no word
@@ -75,11 +70,10 @@ pub record BelowAsked (costs : List ℕ) (A B b m q start right : ℕ) (part : L
   pub filled : RowFrom (keyCell costs A B) b m start part
   pub first : right ≡ keyCell costs A B start b false (m / 2 ^ start)
 
--- The columns from k on are filled, and `after`, once cut, is the second number of column k.
+-- The columns from k on are filled, and `after` is the second number of column k.
 pub record Below (costs : List ℕ) (A B b m start : ℕ) (entry part : List ℕ) (k after : ℕ) : Type 0 where
   pub filled : RowFilled (keyCell costs A B) b m k entry part
-  pub number : min noKey after ≡ keyCell costs A B k b false (m / 2 ^ k)
-  pub low : after ≤ 2 * noKey
+  pub number : after ≡ keyCell costs A B k b false (m / 2 ^ k)
   pub within : k ≤ start
 
 module _ {costs : List ℕ} {A B b m q start right : ℕ} {entry : List ℕ} (asked : BelowAsked costs A B b m q start right entry) where
@@ -88,16 +82,13 @@ module _ {costs : List ℕ} {A B b m q start right : ℕ} {entry : List ℕ} (as
 
   pub below-none : Below costs A B b m start entry entry start right
   below-none =
-      let most = cell-at-most costs A B start b false (m / 2 ^ start) in
-      record {
-        filled = record { row = asked .filled; same = refl; later = refl };
-        number = omega (arith, asked .first);
-        low = omega (arith, asked .first);
-        within = omega arith;
-      }
+      record { filled = record { row = asked .filled; same = refl; later = refl }; number = asked .first; within = omega arith }
 
   -- Column j is next.
   module _ {part : List ℕ} {k after : ℕ} (s : Below costs A B b m start entry part k after) (j : ℕ) (e : k ≡ suc j) where
+    abbrev above : ℕ
+    above = getD part (128 + 2 * j) 0
+
     two-left : 2 ≤ m / 2 ^ j
     two-left =
         let p : 2 ^ suc j ≤ 2 ^ start = pow-mono (omega (arith, s .within)) in
@@ -109,53 +100,56 @@ module _ {costs : List ℕ} {A B b m q start right : ℕ} {entry : List ℕ} (as
     pub below-room : 256 ≤ length part
     below-room = omega (arith, s .filled .same, asked .asked .room-above two)
 
-    third-is : getD part (128 + 2 * j) 0 ≡ G j (suc b) true (m / 2 ^ j / 3)
-    third-is =
+    above-is : above ≡ G j (suc b) true (m / 2 ^ j / 3)
+    above-is =
         read-above G j (asked-still G (asked .asked) (s .filled)) two (omega (arith, s .within, asked .last))
         ∙ rw (asked .asked .third, third-of-rest)
 
-    above-low : getD part (128 + 2 * j) 0 ≤ noKey
-    above-low = omega (arith, third-is, cell-at-most costs A B j (suc b) true (m / 2 ^ j / 3))
+    after-is : after ≡ G (suc j) b false (m / 2 ^ j / 2)
+    after-is = s .number ∙ rw (e, half-of-rest)
 
-    pub below-asked : CellAsked costs (m / 2 ^ j) (q / 2 ^ j) after (getD part (128 + 2 * j) 0)
-    below-asked = record { third = rw (asked .asked .third, third-of-rest); right = s .low; above = above-low; low = asked .low }
+    -- No sum wraps.
+    pub above-fits : (l : ℕ) → above + getD costs l 0 ≤ 2 * noKey
+    above-fits l = omega (arith, above-is, cell-at-most costs A B j (suc b) true (m / 2 ^ j / 3), asked .low .each l)
 
-    cell-is : (f : Bool) → min noKey (uncut costs f (m / 2 ^ j) after (getD part (128 + 2 * j) 0)) ≡ G j b f (m / 2 ^ j)
-    cell-is f =
-        rw third-is (sym (cell-step costs A B j b f (m / 2 ^ j) after (asked .low) two-left (s .number ∙ rw (e, half-of-rest))))
+    pub after-fits : (bit : ℕ) → after + pick bit (getD costs 1 0) (getD costs 0 0) ≤ 2 * noKey
+    after-fits bit =
+        omega (
+          arith,
+          after-is,
+          cell-at-most costs A B (suc j) b false (m / 2 ^ j / 2),
+          pick-low bit _ _ noKey (asked .low .each 1) (asked .low .each 0),
+        )
 
-    -- The numbers x and y of column j, cut to x′ and y′, are stored.
-    pub below-more : {x y x′ y′ : ℕ} → CellBy costs (m / 2 ^ j) after (getD part (128 + 2 * j) 0) x y → x′ ≡ min noKey x → y′ ≡ min noKey y
-        → Below costs A B b m start entry (set (set part (2 * j + 1) y′) (2 * j) x′) j y
-    below-more {x′ = x′} {y′ = y′} c ex ey =
+    -- The numbers x and y of column j, chosen by bits of the masks, are stored.
+    pub below-more : {x y : ℕ} → m < 2 ^ 64
+        → y
+        ≡ min (after + pick (m / 2 ^ j % 2) (getD costs 1 0) (getD costs 0 0))
+        (min noKey (pick (onesOf m q / 2 ^ j % 2) (above + getD costs 3 0) noKey))
+        → x ≡ min y (pick (zerosOf m q / 2 ^ j % 2) (above + getD costs 2 0) noKey)
+        → Below costs A B b m start entry (set (set part (2 * j + 1) y) (2 * j) x) j y
+    below-more {x} {y} fits ey ex =
+        let last : j < 64 = omega (arith, s .within, asked .last) in
+        let y-is : y ≡ G j b false (m / 2 ^ j)
+        = ey
+        ∙ rw (after-is, above-is, asked .asked .third, ones-bit m j) (sym (after-by-bits costs A B j b (m / 2 ^ j) (asked .low) two-left)) in
+        let x-is : x ≡ G j b true (m / 2 ^ j)
+        = ex
+        ∙ rw (y-is, above-is, asked .asked .third, zeros-bit m j fits last)
+        (sym (free-by-bits costs A B j b (m / 2 ^ j) (asked .low) two-left)) in
         record {
-          filled =
-              column G b m j k entry part x′ y′ e (omega (arith, s .within, asked .last)) (asked .asked .room)
-              (ex ∙ rw (c .free) (cell-is true))
-              (ey ∙ rw (c .after) (cell-is false))
-              (s .filled);
-          number = rw (c .after) (cell-is false);
-          low = rw (c .after) (uncut-low costs false (m / 2 ^ j) after _ above-low (asked .low));
+          filled = column G b m j k entry part x y e (omega arith) (asked .asked .room) x-is y-is (s .filled);
+          number = y-is;
           within = omega (arith, s .within);
         }
 
--- ---- the end of a row
+-- ---- columns with no word
 
--- What the row step asks: a row within the limit on triplings, where something is left.
-pub record RowOfKeys (costs : List ℕ) (A B b m q : ℕ) (part : List ℕ) : Type 0 where
-  pub asked : RowAsked (keyCell costs A B) b m q part
-  pub low : Low costs
-  pub some : 1 ≤ m
-  pub within : b ≤ B
-
-module _ {costs : List ℕ} {A B b m q : ℕ} {entry : List ℕ} (asked : RowOfKeys costs A B b m q entry) where
-  abbrev G′ : Meaning
-  G′ = keyCell costs A B
-
+module _ (costs : List ℕ) (A B b m : ℕ) {entry l : List ℕ} where
   -- The columns from k on have no word.
-  dead-columns : (from k : ℕ) (l : List ℕ) → from ≤ 2 * k → NoKeys from 128 entry l → ((i : ℕ) → k ≤ i → Dead A B i b (m / 2 ^ i))
-      → RowFilled G′ b m k entry l
-  dead-columns from k l f n d =
+  dead-columns : (from k : ℕ) → from ≤ 2 * k → NoKeys from 128 entry l → ((i : ℕ) → k ≤ i → Dead A B i b (m / 2 ^ i))
+      → RowFilled (keyCell costs A B) b m k entry l
+  dead-columns from k f n d =
       record {
         row = record {
           free = λ i h u. n .keys (2 * i) (omega arith) (omega arith) ∙ sym (cell-dead costs A B i b true (m / 2 ^ i) (d i h));
@@ -164,6 +158,30 @@ module _ {costs : List ℕ} {A B b m q : ℕ} {entry : List ℕ} (asked : RowOfK
         same = n .same;
         later = n .later;
       }
+
+  -- No column has one: nothing is left, or the row is above the limit.
+  pub dead-row : NoKeys 0 128 entry l → (m ≡ 0) ⊎ (B < b) → RowFilled (keyCell costs A B) b m 0 entry l
+  dead-row n d =
+      dead-columns 0 0 (omega arith) n
+      (λ i h. ⊎-elim (λ (e : m ≡ 0). inl (rw (e, zero-div))) (λ (k : B < b). inr (inr k)) d)
+
+-- ---- the end of a row
+
+-- What the row step asks.
+pub record RowOfKeys (costs : List ℕ) (A B b m q : ℕ) (part : List ℕ) : Type 0 where
+  pub asked : RowAsked (keyCell costs A B) b m q part
+  pub low : Low costs
+
+-- The same of a row within the limit on triplings, where something is left.
+pub record LiveRow (costs : List ℕ) (A B b m q : ℕ) (part : List ℕ) : Type 0 where
+  pub asked : RowAsked (keyCell costs A B) b m q part
+  pub low : Low costs
+  pub some : 1 ≤ m
+  pub within : b ≤ B
+
+module _ {costs : List ℕ} {A B b m q : ℕ} {entry : List ℕ} (asked : LiveRow costs A B b m q entry) where
+  abbrev G′ : Meaning
+  G′ = keyCell costs A B
 
   -- What the columns below `start` ask, where those from there on are filled.
   below-from : {start right : ℕ} {l : List ℕ} → RowFilled G′ b m start entry l → start < 64 → 2 ^ start ≤ m
@@ -189,7 +207,7 @@ module _ {costs : List ℕ} {A B b m q : ℕ} {entry : List ℕ} (asked : RowOfK
     pub end-within : RowFilled G′ b m top entry (set (set l (2 * top + 1) end) (2 * top) end)
     end-within =
         column G′ b m top (suc top) entry l end end refl h (asked .asked .room) (one true) (one false)
-        (dead-columns (2 * top + 2) (suc top) l (omega arith) n (λ i g. inl (rest-dead m (suc top) i hi g)))
+        (dead-columns costs A B b m (2 * top + 2) (suc top) (omega arith) n (λ i g. inl (rest-dead m (suc top) i hi g)))
 
     pub within-asked : BelowAsked costs A B b m q top end (set (set l (2 * top + 1) end) (2 * top) end)
     within-asked = below-from end-within h lo (one false)
@@ -204,7 +222,7 @@ module _ {costs : List ℕ} {A B b m q : ℕ} {entry : List ℕ} (asked : RowOfK
       (a : start ≤ top)
       (n : NoKeys (2 * start) 128 entry l) where
     pub end-beyond : RowFilled G′ b m start entry l
-    end-beyond = dead-columns (2 * start) start l (omega arith) n (λ i g. inr (inl (omega arith)))
+    end-beyond = dead-columns costs A B b m (2 * start) start (omega arith) n (λ i g. inr (inl (omega arith)))
 
     pub beyond-asked : BelowAsked costs A B b m q start noKey l
     beyond-asked =
@@ -225,51 +243,3 @@ top-of m h k =
 pub record RowsOfKeys (costs : List ℕ) (b m : ℕ) (l : List ℕ) : Type 0 where
   pub low : Low costs
   pub asked : RowsAsked b m l
-
--- Where something is left there is a row.
-row-left : {b m : ℕ} {l : List ℕ} → RowsAsked b m l → 1 ≤ m → b < 41
-row-left {b} {m} r some =
-    lt-of-not-le (λ (g : 41 ≤ b). omega (arith, r .below, mul-le-mul some (pow-le-pow-right {n = 3} (omega arith) g)))
-
--- The rows from b on have no word.
-pub dead-rows : (costs : List ℕ) (A B b m : ℕ) {entry l : List ℕ} → NoKeys (128 * b) 5248 entry l → (m ≡ 0) ⊎ (B < b)
-    → RowsFilled (keyCell costs A B) b m entry l
-dead-rows costs A B b m {l = l} n d =
-    record {
-      rows = record {
-        row = λ i h k. record {
-          free = λ j _ u. at (2 * j) i j true h k (omega arith);
-          after-a = λ j _ u. at (2 * j + 1) i j false h k (omega arith);
-        };
-      };
-      same = n .same;
-      later = n .later;
-    }
-  where
-    nothing : (i j : ℕ) → b ≤ i → Dead A B j i (m / 3 ^ (i - b) / 2 ^ j)
-    nothing i j h = ⊎-elim (λ (e : m ≡ 0). inl (rw (e, zero-div, zero-div))) (λ (k : B < b). inr (inr (omega arith))) d
-
-    at : (p i j : ℕ) (f : Bool) → b ≤ i → i < 41 → p < 128 → getD (drop (128 * i) l) p 0 ≡ keyCell costs A B j i f (m / 3 ^ (i - b) / 2 ^ j)
-    at p i j f h k u =
-        getD-drop (128 * i) l p 0
-        ∙ n .keys (128 * i + p) (omega arith) (omega arith)
-        ∙ sym (cell-dead costs A B j i f (m / 3 ^ (i - b) / 2 ^ j) (nothing i j h))
-
--- Row b, where something is left, and those above it.
-module _ {costs : List ℕ} {b m : ℕ} {entry : List ℕ} (r : RowsOfKeys costs b m entry) (some : 1 ≤ m) where
-  pub keys-above : RowsOfKeys costs (b + 1) (m / 3) entry
-  keys-above = record { low = r .low; asked = rows-above (b + 1) (r .asked) (row-left (r .asked) some) (add-one b) }
-
-  module _ (A B : ℕ) {l : List ℕ} (f : RowsFilled (keyCell costs A B) (b + 1) (m / 3) entry l) where
-    pub keys-lent : b ≤ B → RowOfKeys costs A B b m (m / 3) (midOf (128 * b) (length l - 128 * b) l)
-    keys-lent h =
-        record {
-          asked = row-lent (keyCell costs A B) (r .asked) (row-left (r .asked) some) (add-one b) f;
-          low = r .low;
-          some = some;
-          within = h;
-        }
-
-    pub keys-more : {part : List ℕ} → RowFilled (keyCell costs A B) b m 0 (midOf (128 * b) (length l - 128 * b) l) part
-        → RowsFilled (keyCell costs A B) b m entry (putMid (128 * b) (length l - 128 * b) l part)
-    keys-more {part} = row-more (keyCell costs A B) (r .asked) (row-left (r .asked) some) (add-one b) f part

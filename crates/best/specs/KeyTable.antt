@@ -3,14 +3,15 @@
 -- A key is parts × 2^32 + price, so the least key has the fewest parts and among those the lowest price (document 01, 'Services and
 -- memory'). `noKey` stands for no word: it is above every key of a chain below 2^64.
 --
--- In this order: the costs of letters as a list, and the meaning of a cell; a cell where its rest is 0 or its point outside the grid,
--- and where its rest is 1; a cell from the one right of it and the one above it, with no choice on a remainder (`cell-step`).
+-- In this order: the costs of letters as a list, and the meaning of a cell; a cell where its rest is 0 or its point outside the
+-- grid, and where its rest is 1; a cell from the one right of it and the one above it (`cell-step`), and the same by bits that
+-- choose, as a row is filled (`after-by-bits`, `free-by-bits`).
 use mathlib.Core.Path.{_≡_, refl, ap, fun-ext, _∙_}
 use mathlib.Core.Logic.{_⊎_, ⊎-elim}
 use mathlib.Core.Bool.{Bool, true, false, cond}
 use mathlib.Core.List.{List, [], _∷_}
 use mathlib.Core.Option.{Option, none, some}
-use Prim.Native.Nat.{ℕ, zero, suc, _+_, _-_, _*_, _/_, _%_, _^_, _≤_, _<_, min}
+use Prim.Native.Nat.{ℕ, zero, suc, _+_, _-_, _/_, _%_, _^_, _≤_, _<_, min}
 use native.Mathlib.Omega.{arith}
 use lib.Dec.{T}
 use lib.ListN.{getD}
@@ -134,55 +135,33 @@ abbrev pub riseOf : Bool → ℕ → ℕ
 riseOf true r = 2 + r
 riseOf false r = 4 - r % 2
 
--- The least of both steps at the rest m, not yet cut at `noKey`: to the half, whose key is h, and to the third, whose key is u.
-unfoldable pub uncut : List ℕ → Bool → ℕ → ℕ → ℕ → ℕ
-uncut costs f m h u = min (h + getD costs (m % 2) 0) (u + getD costs (riseOf f (m % 3)) 0)
-
--- What computing it asks, and gives for the two readers.
-pub record CellAsked (costs : List ℕ) (m q h u : ℕ) : Type 0 where
-  pub third : q ≡ m / 3
-  pub right : h ≤ 2 * noKey
-  pub above : u ≤ noKey
-  pub low : Low costs
-
-pub record CellBy (costs : List ℕ) (m h u x y : ℕ) : Type 0 where
-  pub free : x ≡ uncut costs true m h u
-  pub after : y ≡ uncut costs false m h u
-
--- The remainder is computed as a difference.
-pub uncut-computed : (costs : List ℕ) (f : Bool) (m q h u y : ℕ) → q ≡ m / 3
-    → y ≡ min (h + getD costs (m % 2) 0) (u + getD costs (riseOf f (m - 3 * q)) 0) → y ≡ uncut costs f m h u
-unfolding uncut
-uncut-computed costs f m q h u y third e =
-    let remainder : m - 3 * q ≡ m % 3 = omega arith in
-    e ∙ rw remainder
-
--- It is at most what the step to the third costs.
-pub uncut-low : (costs : List ℕ) (f : Bool) (m h u : ℕ) → u ≤ noKey → Low costs → uncut costs f m h u ≤ 2 * noKey
-unfolding uncut
-uncut-low costs f m h u k c = omega (arith, c .each (riseOf f (m % 3)))
-
 -- Cutting goes over to the parts.
 cut-both : (k x y : ℕ) → min k (min x y) ≡ min (min k x) (min k y)
 cut-both k x y = omega arith
 
--- A cell from a rest of 2 on, from the cell right of it, cut or not, and the cell above it.
-pub cell-step : (costs : List ℕ) (A B a b : ℕ) (f : Bool) (m h : ℕ) → Low costs → 2 ≤ m → min noKey h ≡ keyCell costs A B (suc a) b false (m / 2)
-    → keyCell costs A B a b f m ≡ min noKey (uncut costs f m h (keyCell costs A B a (suc b) true (m / 3)))
-unfolding uncut right up letterBy rises
-cell-step costs A B a b f m h low two right-of =
+-- A cell from a rest of 2 on: the least of both steps, to the half in the cell right of it and to the third in the cell above it.
+pub cell-step : (costs : List ℕ) (A B a b : ℕ) (f : Bool) (m : ℕ) → Low costs → 2 ≤ m
+    → keyCell costs A B a b f m
+    ≡ min noKey
+    (min (keyCell costs A B (suc a) b false (m / 2) + getD costs (m % 2) 0)
+    (keyCell costs A B a (suc b) true (m / 3) + getD costs (riseOf f (m % 3)) 0))
+unfolding right up letterBy rises
+cell-step costs A B a b f m low two =
     cell-live costs A B a b f m (omega arith)
     ∙ least-step noKey (costsBy costs) A B f (record { a = a; b = b }) m two
     ∙ rw (cut-both noKey, cut-both noKey (h + getD costs (m % 2) 0), half (m % 2) (omega arith), third f (m % 3) refl)
   where
+    h : ℕ
+    h = keyCell costs A B (suc a) b false (m / 2)
+
     beside : ℕ
     beside = leastKey noKey (costsBy costs) A B false (record { a = suc a; b = b }) (m / 2)
 
     above : ℕ
     above = leastKey noKey (costsBy costs) A B true (record { a = a; b = suc b }) (m / 3)
 
-    beside-is : min noKey h ≡ beside
-    beside-is = right-of ∙ cell-live costs A B (suc a) b false (m / 2) (omega arith)
+    beside-is : h ≡ beside
+    beside-is = cell-live costs A B (suc a) b false (m / 2) (omega arith)
 
     above-is : 3 ≤ m → keyCell costs A B a (suc b) true (m / 3) ≡ above
     above-is g = cell-live costs A B a (suc b) true (m / 3) (omega arith)
@@ -202,3 +181,62 @@ cell-step costs A B a b f m h low two right-of =
     third true (suc (suc zero)) e = omega (arith, low .shut)
     third false (suc (suc zero)) e = omega (arith, low .shut)
     third f (suc (suc (suc r))) e = absurd (omega arith)
+
+-- ---- the same by bits
+
+-- What a bit chooses: the first number where it is 1, the second where it is 0.
+unfoldable pub pick : ℕ → ℕ → ℕ → ℕ
+pick zero x y = y
+pick (suc bit) x y = x
+
+pub pick-low : (bit x y k : ℕ) → x ≤ k → y ≤ k → pick bit x y ≤ k
+unfolding pick
+pick-low zero x y k h l = l
+pick-low (suc bit) x y k h l = h
+
+-- Both numbers of a cell, where h is the second of the cell right of it and u the first of the cell above it. The bits are those of
+-- the rest and of the masks of its row (grid, Masks).
+module _ (costs : List ℕ) (A B a b m : ℕ) (low : Low costs) (two : 2 ≤ m) where
+  abbrev h : ℕ
+  h = keyCell costs A B (suc a) b false (m / 2)
+
+  abbrev u : ℕ
+  u = keyCell costs A B a (suc b) true (m / 3)
+
+  half-picked : (r : ℕ) → r < 2 → getD costs r 0 ≡ pick r (getD costs 1 0) (getD costs 0 0)
+  unfolding pick
+  half-picked zero l = refl
+  half-picked (suc zero) l = refl
+  half-picked (suc (suc r)) l = absurd (omega arith)
+
+  pub after-by-bits : keyCell costs A B a b false m
+      ≡ min (h + pick (m % 2) (getD costs 1 0) (getD costs 0 0)) (min noKey (pick (m % 3 % 2) (u + getD costs 3 0) noKey))
+  unfolding pick
+  after-by-bits =
+      cell-step costs A B a b false m low two ∙ rw (half-picked (m % 2) (omega arith)) (go (m % 3) (omega arith))
+    where
+      x : ℕ
+      x = h + pick (m % 2) (getD costs 1 0) (getD costs 0 0)
+
+      go : (r : ℕ) → r < 3
+          → min noKey (min x (u + getD costs (riseOf false r) 0)) ≡ min x (min noKey (pick (r % 2) (u + getD costs 3 0) noKey))
+      go zero l = omega (arith, low .shut)
+      go (suc zero) l = omega arith
+      go (suc (suc zero)) l = omega (arith, low .shut)
+      go (suc (suc (suc r))) l = absurd (omega arith)
+
+  pub free-by-bits : keyCell costs A B a b true m
+      ≡ min (keyCell costs A B a b false m) (pick ((2 - m % 3) / 2) (u + getD costs 2 0) noKey)
+  unfolding pick
+  free-by-bits = rw (cell-step costs A B a b true m low two, cell-step costs A B a b false m low two) (go (m % 3) (omega arith))
+    where
+      x : ℕ
+      x = h + getD costs (m % 2) 0
+
+      go : (r : ℕ) → r < 3
+          → min noKey (min x (u + getD costs (riseOf true r) 0))
+          ≡ min (min noKey (min x (u + getD costs (riseOf false r) 0))) (pick ((2 - r) / 2) (u + getD costs 2 0) noKey)
+      go zero l = omega (arith, low .shut)
+      go (suc zero) l = omega arith
+      go (suc (suc zero)) l = omega (arith, low .shut)
+      go (suc (suc (suc r))) l = absurd (omega arith)

@@ -32,7 +32,6 @@ use Rattle.best.specs.KeyTable.{
   cell-live,
   cell-at-most,
   riseOf,
-  uncut,
   cell-step,
 }
 
@@ -223,11 +222,10 @@ module _
 
   -- The smaller one is the least key.
   least-is : leastFrom costs A B free a b rest ≡ min half third
-  unfolding uncut
   least-is =
-      let cut : min noKey beside ≡ keyCell costs A B (suc a) b false (rest / 2) = omega (arith, beside-cell, cells-low) in
-      let e = sym (cell-live costs A B a b free rest (omega (arith, s .more))) ∙ cell-step costs A B a b free rest beside (s .keys .low) (s .more) cut in
-      let e′ : leastFrom costs A B free a b rest ≡ min noKey (min half third) = e ∙ rw (above-cell, place) in
+      let e = cell-step costs A B a b free rest (s .keys .low) (s .more) in
+      let e′ : leastFrom costs A B free a b rest ≡ min noKey (min half third)
+      = sym (cell-live costs A B a b free rest (omega (arith, s .more))) ∙ e ∙ rw (beside-cell, above-cell, place) in
       omega (arith, s .walked .low)
 
   -- The letter l leads to the point (a′, b′).

@@ -1,18 +1,18 @@
 // Filling the table of keys: document 01's scratch, each of its rows lent on as a part that starts in the middle, and filled there by
 // one row step.
 //
-// A row is filled from its last column down, each cell from the one right of it and the one above it. The rest of column a is m >> a,
-// its third q >> a, where m and q are the rests of the first columns of the row and of the row above, so nothing is divided. A remainder
-// is a place in a short list of costs, and no branch.
+// A row is filled from its last column down, each cell from the one right of it and the one above it. The rest of column a is
+// m >> a, where m is the rest of the row's first column, and q that of the row above. Two masks, made once a row, hold the
+// remainders by three of all its rests, so no cell is divided, and a bit chooses a cost without a branch.
 //
 // `doublings` and `triplings` are the limits A and B.
 ghost use mathlib.Core.Path.{_≡_};
-ghost use Prim.Native.Nat.{_<_, _≤_, _*_, _^_, min};
+ghost use Prim.Native.Nat.{_≤_, _%_, min};
 ghost use lib.ListN.{length};
 ghost use Rattle.grid.specs.Grid.{RowFilled, RowsFilled};
-ghost use Rattle.best.specs.KeyTable.{letterCosts, keyCell, CellAsked, CellBy};
+ghost use Rattle.best.specs.KeyTable.{letterCosts, keyCell, pick};
 ghost use Rattle.best.specs.Chosen.{pricesOf};
-ghost use Rattle.best.specs.KeyRows.{NoKeys, BelowAsked, RowOfKeys, RowsOfKeys};
+ghost use Rattle.best.specs.KeyRows.{NoKeys, BelowAsked, LiveRow, RowOfKeys, RowsOfKeys};
 
 // What a part counts in a key.
 pub const PART: u64 = 1 << 32;
@@ -41,6 +41,13 @@ fn least(x: u64, y: u64) -> u64
     if x < y { x } else { y }
 }
 
+// x where the last bit of `bits` is 1, else y.
+fn picked(bits: u64, x: u64, y: u64) -> u64
+    ensures { λ r. ⌜ r ≡ pick (bits % 2) x y ⌝ }
+{
+    if bits % 2 == 1 { x } else { y }
+}
+
 // No word from `from` up to but without `end`.
 fn fill_none(part: &mut [u64], from: usize, end: usize)
     requires { ⌜ (from ≤ end) × (end ≤ length (now part)) ⌝ }
@@ -53,29 +60,12 @@ fn fill_none(part: &mut [u64], from: usize, end: usize)
     }
 }
 
-// The two numbers of a cell, not yet cut at `NONE`: of the reader at the start and after b has risen, and of the reader after a has
-// risen.
-struct Cell {
-    free: u64,
-    after: u64,
-}
-
-// A cell from a rest of 2 on, where `right` is the second number of the cell right of it, not yet cut, and `above` the first of the
-// cell above it. The remainder by three is 0, 1 or 2: at 1 both readers let b rise, at 0 the first alone, at 2 none.
-fn cell_of(rest: u64, third: u64, right: u64, above: u64, costs: &[u64; 6]) -> Cell
-    requires { ⌜ CellAsked (now costs) rest third right above ⌝ }
-    ensures { λ r. ⌜ CellBy (now (costs .entry)) rest right above (r .free) (r .after) ⌝ }
-{
-    let rem = (rest - 3 * third) as usize;
-    let half = right + costs[(rest % 2) as usize];
-    Cell {
-        free: least(half, above + costs[2 + rem]),
-        after: least(half, above + costs[4 - rem % 2]),
-    }
-}
-
-// The columns below `start`, where those from `start` on are filled and `right` is the second number of column `start`. The number
-// that goes from column to column is not cut, so that no step waits for the cut.
+// The columns below `start`, where those from `start` on are filled and `right` is the second number of column `start`.
+//
+// Bit a of `ones` is 1 where the remainder by three of column a's rest is 1, bit a of `zeros` where it is 0 (grid, Masks). At 1
+// both readers let b rise, by the letter 3; at 0 the first reader alone, by the letter 2; at 2 none. What a rise of b gives is cut
+// at `NONE`, so both numbers are, and no column waits for a cut of the one right of it. The costs are read once, before the loop:
+// they stay in registers, and each choice is compiled to a conditional move.
 fn fill_below(
     part: &mut [u64],
     m: u64,
@@ -90,19 +80,26 @@ fn fill_below(
     requires { ⌜ BelowAsked (now costs) doublings triplings b m q start right (now part) ⌝ }
     ensures { λ _. ⌜ RowFilled (keyCell (now (costs .entry)) doublings triplings) b m 0 (now (part .entry)) (now (part .exit)) ⌝ }
 {
+    let ones = m ^ q;
+    let zeros = !(ones | ((ones >> 1) ^ m));
+    let a_rises = costs[0];
+    let part_a_rises = costs[1];
+    let b_rises = costs[2];
+    let part_b_rises = costs[3];
     let mut after = right;
     let mut a = start;
     while 0 < a {
         a -= 1;
-        let cell = cell_of(m >> a, q >> a, after, part[128 + 2 * a], costs);
-        after = cell.after;
-        part[2 * a + 1] = least(NONE, after);
-        part[2 * a] = least(NONE, cell.free);
+        let above = part[128 + 2 * a];
+        let third = least(NONE, picked(ones >> a, above + part_b_rises, NONE));
+        after = least(after + picked(m >> a, part_a_rises, a_rises), third);
+        part[2 * a + 1] = after;
+        part[2 * a] = least(after, picked(zeros >> a, above + b_rises, NONE));
     }
 }
 
-// The row step: one row, in the part that begins at it, the row above at 128. In the column `top` the rest is 1.
-fn fill_row(
+// A row in which something is left, within the limit on triplings. In the column `top` the rest is 1.
+fn fill_live(
     part: &mut [u64],
     m: u64,
     q: u64,
@@ -111,7 +108,7 @@ fn fill_row(
     doublings: usize,
     triplings: usize,
 )
-    requires { ⌜ RowOfKeys (now costs) doublings triplings b m q (now part) ⌝ }
+    requires { ⌜ LiveRow (now costs) doublings triplings b m q (now part) ⌝ }
     ensures { λ _. ⌜ RowFilled (keyCell (now (costs .entry)) doublings triplings) b m 0 (now (part .entry)) (now (part .exit)) ⌝ }
 {
     let top = 63 - u64::leading_zeros(m) as usize;
@@ -128,8 +125,32 @@ fn fill_row(
     }
 }
 
-// The rows from b on, where m is the rest of row b's first column: those above first. Where nothing is left, or b is above its limit,
-// no cell has a word.
+// The row step: one row, in the part that begins at it, the row above at 128. Where nothing is left, or b is above its limit, no
+// cell has a word.
+fn fill_row(
+    part: &mut [u64],
+    m: u64,
+    q: u64,
+    b: usize,
+    costs: &[u64; 6],
+    doublings: usize,
+    triplings: usize,
+)
+    requires { ⌜ RowOfKeys (now costs) doublings triplings b m q (now part) ⌝ }
+    ensures { λ _. ⌜ RowFilled (keyCell (now (costs .entry)) doublings triplings) b m 0 (now (part .entry)) (now (part .exit)) ⌝ }
+{
+    if m == 0 {
+        fill_none(part, 0, 128);
+        return;
+    }
+    if b > triplings {
+        fill_none(part, 0, 128);
+        return;
+    }
+    fill_live(part, m, q, b, costs, doublings, triplings);
+}
+
+// The rows from b on, where m is the rest of row b's first column: the last one first.
 pub fn fill_rows(
     scratch: &mut [u64],
     b: usize,
@@ -141,16 +162,20 @@ pub fn fill_rows(
     requires { ⌜ RowsOfKeys (now costs) b m (now scratch) ⌝ }
     ensures { λ _. ⌜ RowsFilled (keyCell (now (costs .entry)) doublings triplings) b m (now (scratch .entry)) (now (scratch .exit)) ⌝ }
 {
-    let at = 128 * b;
-    if m == 0 {
-        fill_none(scratch, at, 5248);
-        return;
+    let rests = grid::row_rests(m);
+    let mut i = 41;
+    while b < i {
+        i -= 1;
+        let at = 128 * i;
+        let up = i - b;
+        fill_row(
+            &mut scratch[at..],
+            rests[up],
+            rests[up + 1],
+            i,
+            costs,
+            doublings,
+            triplings,
+        );
     }
-    if b > triplings {
-        fill_none(scratch, at, 5248);
-        return;
-    }
-    let q = m / 3;
-    fill_rows(scratch, b + 1, q, costs, doublings, triplings);
-    fill_row(&mut scratch[at..], m, q, b, costs, doublings, triplings);
 }

@@ -71,16 +71,17 @@ fn fill_row(part: &mut [u64], m: u64, q: u64)
     fill_live(part, m, q, top);
 }
 
-// The rows from b on, where m is the rest of row b's first column: those above first.
+// The rows from b on, where m is the rest of row b's first column: the last one first.
 pub fn fill_rows(scratch: &mut [u64], b: usize, m: u64)
     requires { ⌜ RowsAsked b m (now scratch) ⌝ }
     ensures { λ _. ⌜ RowsFilled countCell b m (now (scratch .entry)) (now (scratch .exit)) ⌝ }
 {
-    if b == 41 {
-        return;
+    let rests = grid::row_rests(m);
+    let mut i = 41;
+    while b < i {
+        i -= 1;
+        let at = 128 * i;
+        let up = i - b;
+        fill_row(&mut scratch[at..], rests[up], rests[up + 1]);
     }
-    let q = m / 3;
-    fill_rows(scratch, b + 1, q);
-    let at = 128 * b;
-    fill_row(&mut scratch[at..], m, q);
 }

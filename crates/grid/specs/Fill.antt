@@ -2,23 +2,34 @@
 --
 -- In this order: a row, from the column behind the last down, one column with its two stores at a time; the rows, from the row
 -- behind the last down, each in the part of the scratch that begins at it; reading a cell of the whole table.
-use mathlib.Core.Path.{_≡_, refl, sym, _∙_, subst, subst₂}
+use mathlib.Core.Path.{_≡_, refl, sym, ap, _∙_, subst, subst₂}
 use mathlib.Core.Logic.{_≢_, ⊎-elim}
 use mathlib.Core.Bool.{Bool, true, false}
 use mathlib.Core.List.{List}
 use Prim.Native.Nat.{ℕ, suc, _+_, _-_, _*_, _^_, _/_, _≤_, _<_}
-use native.Mathlib.Nat.{eq-or-lt-of-le, sub-zero, sub-self, div-one, add-assoc}
+use native.Mathlib.Nat.{eq-or-lt-of-le, sub-zero, sub-self, div-one, add-assoc, mul-assoc, mul-le-mul-right, div-mul-le-self}
+use native.Mathlib.Numerals.{add-one}
 use native.Mathlib.Omega.{arith}
 use lib.ListN.{length, getD, drop, set, length-set, length-drop}
+use lib.Pow.{pow-add}
 use lib.Seq.{getD-set-same, getD-set-other, set-comm, drop-set-lt, getD-drop, drop-drop}
 use borrow.Rule.Slice.PartMut.{midOf, putMid, same-len-mid}
 use Rattle.lent.specs.Parts.{part-lent, part-back, kept-behind}
 use Rattle.grid.specs.Grid.{Meaning, Row, Table, RowAsked, RowFilled, RowsAsked, RowsFilled}
-use Rattle.grid.specs.Rests.{third-of-row, third-below, below-last-row, restAt}
+use Rattle.grid.specs.Rests.{third-of-row, row-above, below-last-row, restAt}
 
--- The rows above row b can be asked for where those from b on can.
-pub rows-above : {b m : ℕ} {l : List ℕ} (k : ℕ) → RowsAsked b m l → b < 41 → k ≡ suc b → RowsAsked k (m / 3) l
-rows-above {b} {m} k r h e = record { last = omega arith; room = r .room; below = rw e (third-below m b (r .below)) }
+-- The rows from i on can be asked for where those from b on can.
+pub rows-from : {b m i : ℕ} {l : List ℕ} → RowsAsked b m l → b ≤ i → i ≤ 41 → RowsAsked i (m / 3 ^ (i - b)) l
+rows-from {b} {m} {i} r p h =
+    let e : i ≡ (i - b) + b = omega arith in
+    let power : 3 ^ i ≡ 3 ^ (i - b) * 3 ^ b = ap (λ (x : ℕ). 3 ^ x) e ∙ pow-add 3 (i - b) b in
+    record {
+      last = h;
+      room = r .room;
+      below =
+          rw (power, ← mul-assoc (m / 3 ^ (i - b)) (3 ^ (i - b)) (3 ^ b))
+          (omega (arith, r .below, mul-le-mul-right (3 ^ b) (div-mul-le-self m (3 ^ (i - b)))));
+    }
 
 module _ (G : Meaning) where
   -- ---- a row
@@ -151,6 +162,50 @@ module _ (G : Meaning) where
             subst₂ (λ (x : ℕ) (z : List ℕ). Row G i x z) (third-of-row m (i - k) ∙ rw up)
             (sym (kept-behind (128 * b) l within 128 (128 * i) part (g .later) (omega arith)))
             (f .rows .row i (omega arith) q)
+
+  -- The rows from b on, from the last one down: those from k on are filled, where `rests` has the rests of row b and of those above.
+  pub record RowsDown (b m : ℕ) (rests entry l : List ℕ) (k : ℕ) : Type 0 where
+    pub filled : RowsFilled G k (getD rests (k - b) 0) entry l
+    pub from : b ≤ k
+    pub last : k ≤ 41
+
+  module _ {b m : ℕ} {rests entry : List ℕ} (r : RowsAsked b m entry) (told : (j : ℕ) → j < 42 → getD rests j 0 ≡ m / 3 ^ j) where
+    pub down-none : RowsDown b m rests entry entry 41
+    down-none = record { filled = no-row _ entry; from = r .last; last = omega arith }
+
+    -- Row i is next.
+    module _ {l : List ℕ} {k : ℕ} (d : RowsDown b m rests entry l k) (i : ℕ) (e : k ≡ suc i) (h : b ≤ i) where
+      abbrev here : ℕ
+      here = getD rests (i - b) 0
+
+      low : i < 41
+      low = omega (arith, d .last)
+
+      asked-here : RowsAsked i here entry
+      asked-here = rw (told (i - b) (omega arith)) (rows-from r h (omega arith))
+
+      above-is : getD rests (i - b + 1) 0 ≡ here / 3
+      above-is = told (i - b + 1) (omega arith) ∙ rw (told (i - b) (omega arith), row-above, add-one)
+
+      filled-above : RowsFilled G k (here / 3) entry l
+      filled-above =
+          let n : k - b ≡ i - b + 1 = omega arith in
+          rw (n, above-is) at (d .filled)
+
+      pub down-room : 128 * suc i ≤ length l
+      down-room = omega (arith, d .filled .same, r .room)
+
+      pub down-lent : RowAsked G i here (getD rests (i - b + 1) 0) (midOf (128 * i) (length l - 128 * i) l)
+      down-lent = rw above-is (row-lent asked-here low e filled-above)
+
+      pub down-more : {part : List ℕ} → RowFilled G i here 0 (midOf (128 * i) (length l - 128 * i) l) part
+          → RowsDown b m rests entry (putMid (128 * i) (length l - 128 * i) l part) i
+      down-more {part} g = record { filled = row-more asked-here low e filled-above part g; from = h; last = omega arith }
+
+    pub down-all : {l : List ℕ} {k : ℕ} → RowsDown b m rests entry l k → k ≤ b → RowsFilled G b m entry l
+    down-all {l} {k} d h =
+        let e : k ≡ b = omega (arith, d .from) in
+        rw (e, sub-self b, told 0 (omega arith), div-one m) at (d .filled)
 
   -- ---- reading
 

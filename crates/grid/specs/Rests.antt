@@ -38,19 +38,16 @@ third-of-rest m a = rw (div-div-eq-div-mul m 3 (2 ^ a), div-div-eq-div-mul m (2 
 pub third-of-row : (m i : ℕ) → m / 3 / 3 ^ i ≡ m / 3 ^ suc i
 third-of-row m i = rw (div-div-eq-div-mul m 3 (3 ^ i), ← pow-succ' 3 i)
 
+pub row-above : (m i : ℕ) → m / 3 ^ i / 3 ≡ m / 3 ^ suc i
+row-above m i = rw (div-div-eq-div-mul m (3 ^ i) 3, ← pow-suc 3 i)
+
 pub rest-dead : (m live i : ℕ) → m < 2 ^ live → live ≤ i → m / 2 ^ i ≡ 0
 rest-dead m live i h k = div-eq-of-lt (lt-of-lt-of-le h (pow-mono k))
 
 pub rest-at-top : (m top : ℕ) → 2 ^ top ≤ m → m < 2 ^ suc top → m / 2 ^ top ≡ 1
 rest-at-top m top h k = div-eq-of-lt-le (2 ^ top) (omega arith) (omega arith)
 
--- A part of row b is below 2^64 only for a rest m below 2^64 / 3^b. The row above keeps that bound,
-pub third-below : (m b : ℕ) → m * 3 ^ b < 2 ^ 64 → m / 3 * 3 ^ suc b < 2 ^ 64
-third-below m b h =
-    let le : m / 3 * 3 ≤ m = omega arith in
-    rw pow-suc (omega (arith, mul-le-mul-right (3 ^ b) le))
-
--- and the last row has a rest of at most 1.
+-- A part of row b is below 2^64 only for a rest m below 2^64 / 3^b. So the last row has a rest of at most 1.
 pub below-last-row : (m b : ℕ) → m * 3 ^ b < 2 ^ 64 → 2 ≤ m → b < 40
 below-last-row m b h k =
     lt-of-not-le (λ (g : 40 ≤ b). omega (arith, mul-le-mul k (pow-le-pow-right {n = 3} (omega arith) g)))

@@ -1,36 +1,54 @@
--- `fill_below` fills the columns below `start`, one a turn.
-use mathlib.Core.Path.{_≡_}
-use Prim.Native.Nat.{_-_}
+-- `fill_below` fills the columns below `start`, one a turn: each bit of a mask tells the remainder by three that the choice asks.
+use mathlib.Core.Path.{_≡_, _∙_}
+use Prim.Native.Nat.{_-_, _/_, _%_, _^_}
 use native.Mathlib.Omega.{arith}
 use borrow.Author.Needs.{needs}
 use lib.ListN.{length-set}
-use Rattle.best.specs.KeyRows.{Below, below-none, below-room, below-asked, below-more}
+use Rattle.best.specs.KeyRows.{Below, below-none, below-room, above-fits, after-fits, below-more}
 use Rattle.best.proofs.keys.fill_below.Statement.{statement}
 use Rattle.best.proofs.keys.fill_below.Tie as tie
 
 abbrev Inv-loop : tie.InvT-loop
-Inv-loop part₀ m q b start right costs doublings triplings after₀ a₀ part after a =
-    Below costs doublings triplings b m start part₀ part a after
+Inv-loop part₀ m q b start right costs A B ones zeros c0 c1 c2 c3 after₀ a₀ part after a =
+    Below costs A B b m start part₀ part a after
 
 abbrev μ-loop : tie.MeasureT-loop
-μ-loop part₀ m q b start right costs doublings triplings after₀ a₀ part after a = a
+μ-loop part₀ m q b start right costs A B ones zeros c0 c1 c2 c3 after₀ a₀ part after a = a
 
-slice-read-cell-of : tie.Need-slice-read-cell-of Inv-loop μ-loop
-slice-read-cell-of c =
-    let l = c .before .before .loop in
-    omega (arith, below-room (c .before .before .before .before .pre) (l .inv) (l .a - 1) (omega arith))
+slice-read-above : tie.Need-slice-read-above Inv-loop μ-loop
+slice-read-above c =
+    let l = c .before .before in
+    let s = l .before .before .before .before .before .before in
+    omega (arith, below-room (s .pre) (l .loop .inv) (l .loop .a - 1) (omega arith))
 
-cell-of-requires : tie.Need-cell-of-requires Inv-loop μ-loop
-cell-of-requires c κs =
-    let l = c .before .before .loop in
-    below-asked (c .before .before .before .before .pre) (l .inv) (l .a - 1) (omega arith)
+add-picked : tie.Need-add-picked Inv-loop μ-loop
+add-picked c =
+    let l = c .before .before in
+    let s = l .before .before .before .before .before .before in
+    omega (arith, above-fits (s .pre) (l .loop .inv) (l .loop .a - 1) (omega arith) 3)
+
+add-least : tie.Need-add-least Inv-loop μ-loop
+add-least c =
+    let l = c .before .before .before .before .before in
+    let s = l .before .before .before .before .before .before in
+    let fits = after-fits (s .pre) (l .loop .inv) (l .loop .a - 1) (omega arith) (s .args .m / 2 ^ (l .loop .a - 1) % 2) in
+    omega (arith, c .picked2 .ensures)
+
+add-picked-2 : tie.Need-add-picked-2 Inv-loop μ-loop
+add-picked-2 c =
+    let l = c .before .before .before .before .before .before in
+    let s = l .before .before .before .before .before .before in
+    omega (arith, above-fits (s .pre) (l .loop .inv) (l .loop .a - 1) (omega arith) 2)
 
 loop-again : tie.Need-loop-again Inv-loop μ-loop
 loop-again c =
-    let l = c .before .before .before .before .before .loop in
-    let s = c .before .before .before .before .before .before .before in
-    below-more (s .pre) (l .inv) (l .a - 1) (omega arith) (c .before .before .cell-of .ensures) (c .least2 .ensures)
-    (c .before .least .ensures)
+    let y = c .before .before in
+    let p = y .before .before in
+    let l = p .before .before .before .before in
+    let s = l .before .before .before .before .before .before in
+    below-more (s .pre) (l .loop .inv) (l .loop .a - 1) (omega arith) (s .fits .m .fits)
+    (y .least2 .ensures ∙ rw (y .before .picked2 .ensures, p .least .ensures, p .before .picked .ensures))
+    (c .least3 .ensures ∙ rw (c .before .picked3 .ensures))
 
 returns : tie.Need-returns Inv-loop μ-loop
 returns c =
@@ -44,25 +62,36 @@ fill-below-spec =
     (tie.spec
     Inv-loop
     μ-loop
-    (λ c. below-none (c .before .pre))
     (λ c. search needs)
     (λ c. search needs)
     (λ c. search needs)
     (λ c. search needs)
+    (λ c. below-none (c .before .before .before .before .before .pre))
     (λ c. search needs)
     (λ c. search needs)
-    slice-read-cell-of
-    cell-of-requires
+    (λ c. search needs)
+    (λ c. search needs)
+    slice-read-above
+    (λ c. search needs)
+    add-picked
+    (λ c κs. search needs)
+    (λ c κs. search needs)
+    (λ c. search needs)
+    (λ c κs. search needs)
+    add-least
     (λ c κs. search needs)
     (λ c. search needs)
     (λ c. search needs)
     (λ c. search needs)
     (λ c. search needs)
+    (λ c. search needs)
+    add-picked-2
+    (λ c κs. search needs)
     (λ c κs. search needs)
     (λ c. search needs)
     (λ c. search needs)
     (λ c. simp length-set (omega arith))
     (λ c. search needs)
     loop-again
-    (λ c. search needs)
+    (λ c. c .before .loop .inv .filled .same)
     returns)
