@@ -1,7 +1,7 @@
 -- Choosing: what it asks, finds and leaves, and why.
 use mathlib.Core.Path.{_≡_, refl, subst, _∙_}
 use mathlib.Core.Bool.{true}
-use mathlib.Core.List.{List, []}
+use mathlib.Core.List.{List}
 use mathlib.Core.Option.{Option, none, some}
 use Prim.Native.Nat.{ℕ, _+_, _*_, _/_, _%_, _^_, _≤_, _<_}
 use native.Mathlib.Omega.{arith}
@@ -25,7 +25,6 @@ use Rattle.best.specs.declared.choosing.Choice.the-variants as choice
 use Rattle.best.specs.KeyTable.{partWeight, noKey, Low, letterCosts, Cheap, prices-low, prices-costs, keyCell}
 use Rattle.best.specs.KeyRows.{RowsOfKeys}
 use Rattle.best.specs.Walk.{Keyed, KeyStart, BestWritten, least-of-all}
-use Rattle.best.specs.Chosen.{pricesOf}
 
 -- It is lent a scratch and room for 64 letters.
 pub record ChoosingAsked (scratch letters : List ℕ) : Type 0 where
@@ -113,8 +112,8 @@ module _ {n : ℕ} (lim : Limits) (π : Prices) (fits : n < 2 ^ 64) (cheap : Che
 
 -- ---- with the table in the scratch
 
--- What is at hand when the table is filled: the costs of the prices, a number of 64 bits that is not 0, prices of 16 bits, a limit on
--- parts of 8 bits.
+-- What is at hand when the table is filled: the costs of the prices, a number of 64 bits that is not 0, prices of 16 bits, a limit
+-- on parts of 8 bits.
 pub record Begun (costs : List ℕ) (n : ℕ) (lim : Limits) (π : Prices) (scratch letters : List ℕ) : Type 0 where
   pub costs-are : costs ≡ letterCosts π
   pub fits : n < 2 ^ 64

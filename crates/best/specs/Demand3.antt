@@ -1,13 +1,13 @@
--- Demand 3: what the best chain answers is a chain of n within the limits, and every other such chain has more parts, or as many and a
--- higher price, or the same and a later position; it refuses with 5 exactly where no chain of n is within the limits.
+-- Demand 3: what the best chain answers is a chain of n within the limits, and every other such chain has more parts, or as many
+-- and a higher price, or the same and a later position; it refuses with 5 exactly where no chain of n is within the limits.
 --
--- In this order: the outcome (`given-is-best`, `refused-none`), and the answer that a caller sees (`demand-3`), where enough is lent; the
--- number 0; limits above 64, 63 and 40.
-use mathlib.Core.Path.{_≡_, refl, sym, ap, _∙_}
-use mathlib.Core.Logic.{_↔_, _≢_}
+-- In this order: the outcome (`given-is-best`, `refused-none`), and the answer that a caller sees (`demand-3`), where enough is
+-- lent; the number 0; limits above 64, 63 and 40.
+use mathlib.Core.Path.{_≡_, refl, sym, ap}
+use mathlib.Core.Logic.{_↔_}
 use mathlib.Core.List.{List, [], _∷_, List·Memᴰ·head}
 use mathlib.Core.Option.{Option, none, some}
-use Prim.Native.Nat.{ℕ, suc, _*_, _^_, _≤_, _<_, min}
+use Prim.Native.Nat.{ℕ, _^_, _≤_, _<_, min}
 use native.Mathlib.Nat.{le-mul-of-pos-right, le-trans, lt-of-not-le, mul-comm, one-le-pow, pow-le-pow-right}
 use native.Mathlib.Omega.{arith}
 use lib.ListN.{length}
@@ -20,9 +20,9 @@ use Rattle.chains.specs.BestOfAll.{bestOf, price-fits, best-of-zero, best-uniqu
 use Rattle.ranking.specs.Services.{Outcome, refused, gives, lent}
 use Rattle.best.specs.declared.Chosen.{Chosen}
 use Rattle.best.specs.declared.Chosen.the-variants.{Chain, Refused}
+use Rattle.ranking.specs.RoundTrips.{Enough, lent-all}
 use Rattle.best.specs.Chosen.{orNone, bestOutcome, chosenOf}
 use Rattle.best.specs.KeyTable.{Cheap}
-use Rattle.best.specs.Placing.{Enough, lent-all}
 
 -- No chain of n is within the limits.
 abbrev pub NoneFits : ℕ → Limits → Type 0

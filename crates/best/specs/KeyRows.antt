@@ -1,7 +1,8 @@
 -- How the key table is filled: what the calls that fill it ask and leave, and the laws by which they do.
 --
--- In this order: a run of cells with no word; the columns of a row below one that is filled; columns with no word; the end of a row,
--- within the limit on doublings or behind it; what the rows ask. The laws over any meaning, those of the rows too, are in grid, Fill.
+-- In this order: a run of cells with no word; the columns of a row below one that is filled; columns with no word; the end of a
+-- row, within the limit on doublings or behind it; what the rows ask. The laws over any meaning, those of the rows too, are in
+-- grid, Fill.
 use mathlib.Core.Path.{_≡_, refl, sym, ap, _∙_}
 use mathlib.Core.Logic.{_⊎_, inl, inr, ⊎-elim}
 use mathlib.Core.Bool.{Bool, true, false}
@@ -60,8 +61,8 @@ none-more {from} {i} {entry} {l} n h k =
 
 -- ---- the columns below one that is filled
 
--- What filling the columns below `start` asks: those from `start` on are filled, `right` is the second number of column `start`, and the
--- rest there is at least 1.
+-- What filling the columns below `start` asks: those from `start` on are filled, `right` is the second number of column `start`,
+-- and the rest there is at least 1.
 pub record BelowAsked (costs : List ℕ) (A B b m q start right : ℕ) (part : List ℕ) : Type 0 where
   pub asked : RowAsked (keyCell costs A B) b m q part
   pub low : Low costs

@@ -20,7 +20,7 @@ use Rattle.chains.specs.Words.{Word, right, up}
 use Rattle.chains.specs.Best.{Prices}
 use Rattle.chains.specs.Members.{rises}
 use Rattle.chains.specs.Keys.{Costs, inside, bestAt, keyOr, leastKey}
-use Rattle.chains.specs.Bests.{inside-bounds, keyA, keyB, least-step, least-one, least-outside}
+use Rattle.chains.specs.Bests.{inside-bounds, least-step, least-one, least-outside}
 use Rattle.chains.specs.BestOfAll.{letterCost, costsOf}
 use Rattle.grid.specs.Grid.{Meaning}
 

@@ -1,28 +1,24 @@
 -- Placing: what it answers for a word whose chain has a price; and how the answer of the best chain comes out, case by case.
 --
--- In this order: the answer of placing; what holds at each return of the best chain; too little is lent, and enough; the chosen word, and
--- no word.
-use mathlib.Core.Path.{_≡_, refl, sym, ap, _∙_}
-use mathlib.Core.Bool.{Bool, true, false, _||_}
-use mathlib.Core.List.{List, [], _++_}
-use mathlib.Core.Option.{Option, none, some}
-use Prim.Native.Nat.{ℕ, _-_, _^_, _≤_, _<_}
-use native.Mathlib.Nat.{sub-zero}
+-- In this order: the answer of placing; what holds at each return of the best chain; too little is lent, and enough; no word, and
+-- the chosen word.
+use mathlib.Core.Path.{_≡_, refl, _∙_}
+use mathlib.Core.Bool.{true, false}
+use mathlib.Core.List.{List, []}
+use mathlib.Core.Option.{none}
+use Prim.Native.Nat.{ℕ, _^_, _≤_, _<_}
 use native.Mathlib.Omega.{arith}
 use borrow.Author.Tests.{lt-ltb, le-ltb, le-leb}
 use borrow.Rule.Slice.PartMut.{midOf, putMid}
-use lib.Dec.{T, ltb}
 use lib.Ieee.Bits.{is-true}
-use lib.ListN.{length, take, drop}
-use Rattle.chains.specs.Chains.{Part}
-use Rattle.chains.specs.Words.{Word, origin, chainOf, reads}
-use Rattle.chains.specs.Listing.{wordsAt, position}
-use Rattle.chains.specs.Best.{Prices, price, Limits}
-use Rattle.chains.specs.Weight.{weight}
+use lib.ListN.{length, take}
+use Rattle.chains.specs.Words.{chainOf, reads}
+use Rattle.chains.specs.Best.{Prices, Limits}
 use Rattle.chains.specs.BestOfAll.{costsOf, upTo, bestOf}
 use Rattle.lent.specs.Lent.{zeros, filled, cleared}
 use Rattle.grid.specs.Grid.{scratchSize}
-use Rattle.ranking.specs.Services.{Outcome, refused, gives, tooLittle, lent, answerOf, placesLeft, scratchLeft, ofWord}
+use Rattle.ranking.specs.Services.{Outcome, gives, tooLittle, lent, answerOf, placesLeft, scratchLeft, ofWord}
+use Rattle.ranking.specs.RoundTrips.{Enough, enough, lent-all}
 use Rattle.ranking.specs.declared.Found.{Found}
 use Rattle.ranking.specs.declared.Found.the-variants as found
 use Rattle.best.specs.declared.Chosen.{Chosen}
@@ -56,22 +52,10 @@ module _ (π : Prices) (o : Outcome) (s p : List ℕ) where
   unfolding tooLittle
   little-places h k = little (rw (le-ltb (length s) scratchSize h, lt-ltb (length p) 64 k))
 
--- Enough is lent.
-pub record Enough (s p : List ℕ) : Type 0 where
-  pub numbers : scratchSize ≤ length s
-  pub room : 64 ≤ length p
-
-not-little : (s p : List ℕ) → Enough s p → tooLittle s p ≡ false
-unfolding tooLittle
-not-little s p h = rw (le-ltb (length s) scratchSize (h .numbers), le-ltb (length p) 64 (h .room))
-
-pub lent-all : (s p : List ℕ) (o : Outcome) → Enough s p → lent s p o ≡ o
-unfolding lent
-lent-all s p o h = rw (not-little s p h)
-
+-- Enough is lent: the scratch is zeroed.
 scratch-zeroed : (s p : List ℕ) → Enough s p → scratchLeft (tooLittle s p) s ≡ filled scratchSize [] s
 unfolding scratchLeft
-scratch-zeroed s p h = rw (not-little s p h)
+scratch-zeroed s p h = rw (enough s p h)
 
 module _ (π : Prices) (n : ℕ) (lim : Limits) {s p : List ℕ} (h : Enough s p) where
   -- ---- no word

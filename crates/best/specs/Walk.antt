@@ -1,8 +1,8 @@
 -- The walk along a table of keys that writes the best word, letter by letter: by the letter that the smaller key follows, the first
 -- where both keys are equal.
 --
--- In this order: the table, and the best word; what holds of the walk at a point, and what a step asks and gives; the laws by which the
--- walk starts, goes on and ends, and writes the letters that it passes.
+-- In this order: the table, and the best word; what holds of the walk at a point, and what a step asks and gives; the laws by which
+-- the walk starts, goes on and ends, and writes the letters that it passes.
 use mathlib.Core.Path.{_≡_, refl, sym, ap, ap₂, _∙_}
 use mathlib.Core.Bool.{Bool, true, false, cond}
 use mathlib.Core.List.{List, [], _∷_, _++_}

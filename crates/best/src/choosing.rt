@@ -1,10 +1,7 @@
 // Choosing: the best word of n within the limits, by a table of keys.
 use super::keys;
 use super::walk;
-ghost use mathlib.Core.Path.{_≡_};
-ghost use Prim.Native.Nat.{_≤_};
-ghost use lib.ListN.{length, drop};
-ghost use Rattle.grid.specs.Grid.{scratchSize};
+ghost use lib.ListN.{length};
 ghost use Rattle.best.specs.Chosen.{limitsOf, pricesOf};
 ghost use Rattle.best.specs.Choosing.{ChoosingAsked, ChosenBy, Used};
 
@@ -14,8 +11,8 @@ pub enum Choice {
     Nothing,
 }
 
-// The best word of n within the limits, at the start of `letters`. The number 0 has the empty word, whatever the limits. The key of no word
-// counts 256 parts, which is above every limit.
+// The best word of n within the limits, at the start of `letters`. The number 0 has the empty word, whatever the limits. The key of
+// no word counts 256 parts, which is above every limit.
 pub fn choose(
     n: u64,
     parts_limit: u8,

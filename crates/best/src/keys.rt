@@ -1,5 +1,5 @@
-// Filling the table of keys: document 01's scratch, each of its rows lent on as a part that starts in the middle, and filled there by
-// one row step.
+// Filling the table of keys: document 01's scratch, each of its rows lent on as a part that starts in the middle, and filled there
+// by one row step.
 //
 // A row is filled from its last column down, each cell from the one right of it and the one above it. The rest of column a is
 // m >> a, where m is the rest of the row's first column, and q that of the row above. Two masks, made once a row, hold the

@@ -15,13 +15,13 @@ pub enum Chosen {
     Refused(u8),
 }
 
-// The best chain of n with at most `parts_limit` parts, doublings up to `a_limit` and triplings up to `b_limit`, where d, t and s are the
-// prices of a doubling, a tripling and an addition: its position in the whole list of n, its number of parts and its price; the part
-// numbers in the places. The number 0 has the empty chain, whatever the limits.
+// The best chain of n with at most `parts_limit` parts, doublings up to `a_limit` and triplings up to `b_limit`, where d, t and s
+// are the prices of a doubling, a tripling and an addition: its position in the whole list of n, its number of parts and its price;
+// the part numbers in the places. The number 0 has the empty chain, whatever the limits.
 //
-// Lent a scratch of at least 5,248 numbers and 64 places or more, whatever they hold. Refuses with 1 where less is lent, and nothing is
-// touched; with 5 where no chain is within the limits, and the places are as they were. Else the places behind the part numbers are zero
-// up to 64, and the first 5,248 numbers of the scratch are zero on every way out but 1.
+// Lent a scratch of at least 5,248 numbers and 64 places or more, whatever they hold. Refuses with 1 where less is lent, and
+// nothing is touched; with 5 where no chain is within the limits, and the places are as they were. Else the places behind the part
+// numbers are zero up to 64, and the first 5,248 numbers of the scratch are zero on every way out but 1.
 pub fn best_chain(
     n: u64,
     parts_limit: u8,

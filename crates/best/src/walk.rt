@@ -1,5 +1,5 @@
-// The walk along a table of keys that writes the best word. It goes along the letters of the word, from the point (0, 0) up; the next
-// letter's index is a + b.
+// The walk along a table of keys that writes the best word. It goes along the letters of the word, from the point (0, 0) up; the
+// next letter's index is a + b.
 ghost use mathlib.Core.Path.{_≡_};
 ghost use Prim.Native.Nat.{_≤_};
 ghost use Rattle.best.specs.KeyTable.{riseOf};

@@ -163,7 +163,8 @@ module _ (G : Meaning) where
             (sym (kept-behind (128 * b) l within 128 (128 * i) part (g .later) (omega arith)))
             (f .rows .row i (omega arith) q)
 
-  -- The rows from b on, from the last one down: those from k on are filled, where `rests` has the rests of row b and of those above.
+  -- The rows from b on, from the last one down: those from k on are filled, where `rests` has the rests of row b and of those
+  -- above.
   pub record RowsDown (b m : ℕ) (rests entry l : List ℕ) (k : ℕ) : Type 0 where
     pub filled : RowsFilled G k (getD rests (k - b) 0) entry l
     pub from : b ≤ k

@@ -18,7 +18,6 @@ use native.Mathlib.Nat.{
   mul-comm,
   mul-le-mul,
   mul-le-mul-left,
-  mul-le-mul-right,
   one-le-pow,
   pow-le-pow-left,
   pow-le-pow-right,

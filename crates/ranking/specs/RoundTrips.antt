@@ -36,13 +36,17 @@ pub record Enough (scratch places : List ℕ) : Type 0 where
   pub numbers : scratchSize ≤ length scratch
   pub room : 64 ≤ length places
 
-enough : (scratch places : List ℕ) → Enough scratch places → tooLittle scratch places ≡ false
+pub enough : (scratch places : List ℕ) → Enough scratch places → tooLittle scratch places ≡ false
 unfolding tooLittle
 enough scratch places h = rw (le-ltb (length scratch) scratchSize (h .numbers), le-ltb (length places) 64 (h .room))
 
 lent-enough : (scratch places : List ℕ) (o : Outcome) → tooLittle scratch places ≡ false → lent scratch places o ≡ o
 unfolding lent
 lent-enough scratch places o e = rw e
+
+-- Then the outcome is the service's own.
+pub lent-all : (scratch places : List ℕ) (o : Outcome) → Enough scratch places → lent scratch places o ≡ o
+lent-all scratch places o h = lent-enough scratch places o (enough scratch places h)
 
 scratch-enough : (scratch : List ℕ) (o : Outcome) → scratchSize ≤ length scratch → lentScratch scratch o ≡ o
 unfolding lentScratch
@@ -146,7 +150,7 @@ pub chain-trips :
     → Trips n c scratch places room
 unfolding placedOf
 chain-trips n c scratch places room h f e r =
-    let served : (o : Outcome) → lent scratch places o ≡ o = λ o. lent-enough scratch places o (enough scratch places e) in
+    let served : (o : Outcome) → lent scratch places o ≡ o = λ o. lent-all scratch places o e in
     record {
       read-record = rw (scratch-enough scratch (ofRecord (map placeOf c)) (e .numbers), record-chain n c h f);
       chain-at = served (atPosition n (position n c)) ∙ at-chain n c h;
