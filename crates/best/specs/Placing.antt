@@ -16,8 +16,8 @@ use Rattle.chains.specs.Words.{chainOf, reads}
 use Rattle.chains.specs.Best.{Prices, Limits}
 use Rattle.chains.specs.BestOfAll.{costsOf, upTo, bestOf}
 use Rattle.lent.specs.Lent.{zeros, filled, cleared}
-use Rattle.grid.specs.Grid.{scratchSize}
-use Rattle.ranking.specs.Services.{Outcome, gives, tooLittle, lent, answerOf, placesLeft, scratchLeft, ofWord}
+use Rattle.grid.specs.Grid.{scratchSize, scratchLeft}
+use Rattle.ranking.specs.Services.{Outcome, gives, tooLittle, lent, answerOf, placesLeft, ofWord}
 use Rattle.ranking.specs.RoundTrips.{Enough, enough, lent-all}
 use Rattle.ranking.specs.declared.Found.{Found}
 use Rattle.ranking.specs.declared.Found.the-variants as found

@@ -6,8 +6,9 @@ mod walk;
 
 use choosing::Choice;
 ghost use mathlib.Core.Path.{_≡_};
-ghost use Rattle.ranking.specs.Services.{lent, tooLittle, placesLeft, scratchLeft};
+ghost use Rattle.ranking.specs.Services.{lent, tooLittle, placesLeft};
 ghost use Rattle.best.specs.Chosen.{limitsOf, pricesOf, bestOutcome, chosenOf};
+ghost use Rattle.grid.specs.Grid.{scratchLeft};
 
 // The best chain, its parts in the places, or the refusal.
 pub enum Chosen {

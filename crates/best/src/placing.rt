@@ -2,8 +2,9 @@
 use super::Chosen;
 use ranking::Found;
 ghost use mathlib.Core.Path.{_≡_};
-ghost use Rattle.ranking.specs.Services.{lent, tooLittle, answerOf, placesLeft, scratchLeft, ofWord};
+ghost use Rattle.ranking.specs.Services.{lent, tooLittle, answerOf, placesLeft, ofWord};
 ghost use Rattle.best.specs.Placing.{pricedOf};
+ghost use Rattle.grid.specs.Grid.{scratchLeft};
 
 // Finds the position of a word's chain, whose price is told, and writes its part numbers to the places.
 pub fn place(letters: &[u8], price: u64, scratch: &mut [u64], places: &mut [u16]) -> Chosen

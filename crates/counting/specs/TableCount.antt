@@ -10,13 +10,13 @@ use Prim.Native.Nat.{ℕ, _≤_, _<_}
 use native.Mathlib.Decide.{decLe}
 use native.Mathlib.Nat.{lt-of-not-le}
 use native.Mathlib.Omega.{arith}
-use lib.Dec.{leb}
+use lib.Dec.{leb, ltb}
 use lib.ListN.{length}
-use borrow.Author.Tests.{le-leb, lt-leb}
+use borrow.Author.Tests.{le-leb, lt-leb, le-ltb, lt-ltb}
 use borrow.Rule.Slice.PartMut.{midOf, putMid}
 use Rattle.chains.specs.Listing.{count}
 use Rattle.lent.specs.Lent.{zeros, filled, cleared}
-use Rattle.grid.specs.Grid.{scratchSize}
+use Rattle.grid.specs.Grid.{scratchSize, scratchLeft}
 use Rattle.counting.specs.declared.Counted.{Counted}
 use Rattle.counting.specs.declared.Counted.the-variants.{Count, Refused}
 use Rattle.counting.specs.PlainCount.{plainOf, plain-served}
@@ -27,8 +27,8 @@ unfoldable pub countedOf : ℕ → ℕ → Counted
 countedOf n size = cond (leb scratchSize size) (Count (count n)) (Refused 1)
 
 -- The scratch at exit: untouched with refusal 1, else its first 5,248 numbers are zero and the rest is untouched.
-unfoldable pub scratchAfter : List ℕ → List ℕ
-scratchAfter entry = cond (leb scratchSize (length entry)) (filled scratchSize [] entry) entry
+abbrev pub scratchAfter : List ℕ → List ℕ
+scratchAfter entry = scratchLeft (ltb (length entry) scratchSize) entry
 
 -- The scratch once the table of n was asked for: it holds the table where it had room, else nothing was touched.
 pub record TableAsked (n : ℕ) (entry exit : List ℕ) : Type 0 where
@@ -46,12 +46,12 @@ unfolding countedOf
 counted-refused n size h = rw (lt-leb scratchSize size h)
 
 pub after-served : (entry : List ℕ) → scratchSize ≤ length entry → scratchAfter entry ≡ filled scratchSize [] entry
-unfolding scratchAfter
-after-served entry h = rw (le-leb scratchSize (length entry) h)
+unfolding scratchLeft
+after-served entry h = rw (le-ltb (length entry) scratchSize h)
 
 pub after-refused : (entry : List ℕ) → length entry < scratchSize → scratchAfter entry ≡ entry
-unfolding scratchAfter
-after-refused entry h = rw (lt-leb scratchSize (length entry) h)
+unfolding scratchLeft
+after-refused entry h = rw (lt-ltb (length entry) scratchSize h)
 
 -- ---- what an answer r of `fill_counts` tells of the scratch's size, and the scratch l that it leaves
 

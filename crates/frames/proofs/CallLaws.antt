@@ -12,10 +12,10 @@ use borrow.Author.Tests.{le-ltb}
 use lib.ListN.{length, take, length-append, length-drop, length-map}
 use lib.Seq.{take-append-seam}
 use Rattle.chains.specs.Chains.{Part}
-use Rattle.grid.specs.Grid.{scratchSize}
+use Rattle.grid.specs.Grid.{scratchSize, scratchLeft}
 use Rattle.lent.specs.Lent.{zeros, filled}
 use Rattle.parts.specs.Parts.{placeOf}
-use Rattle.ranking.specs.Services.{Outcome, refused, gives, answerOf, placesLeft, tooLittle, lent, scratchLeft}
+use Rattle.ranking.specs.Services.{Outcome, refused, gives, answerOf, placesLeft, tooLittle, lent}
 use Rattle.ranking.specs.RoundTrips.{numbers-left}
 use Rattle.ranking.specs.declared.Found.{Found}
 use Rattle.ranking.specs.declared.Found.the-variants as found

@@ -5,8 +5,8 @@ mod tell;
 
 use lines::Shape;
 ghost use mathlib.Core.Path.{_≡_};
-ghost use Rattle.ranking.specs.Services.{scratchLeft};
 ghost use Rattle.frames.specs.Replies.{littleLent, answerTo, outLeft};
+ghost use Rattle.grid.specs.Grid.{scratchLeft};
 
 // What a reply answers: how many digits it has, or the number of the refusal.
 pub enum Replied {

@@ -5,12 +5,13 @@ use best::Chosen;
 use counting::Counted;
 use ranking::Placed;
 ghost use mathlib.Core.Path.{_≡_};
-ghost use Rattle.ranking.specs.Services.{lent, tooLittle, placesLeft, scratchLeft};
+ghost use Rattle.ranking.specs.Services.{lent, tooLittle, placesLeft};
 ghost use Rattle.best.specs.Chosen.{bestOutcome, chosenOf};
 ghost use Rattle.frames.specs.Calls.{EnoughLent, Handled, FitAs};
 ghost use Rattle.frames.specs.Replies.{refusedAs, limitsIn, pricesIn, served, replyTo};
 ghost use Rattle.lines.specs.Kinds.{counting, choosing, placing, recording, wording, following};
 ghost use Rattle.lines.specs.LineLaws.{Fit};
+ghost use Rattle.grid.specs.Grid.{scratchLeft};
 
 // A line that is refused: the scratch is zeroed as on success.
 pub fn serve_refusal(number: u8, scratch: &mut [u64], out: &mut [u8]) -> Replied

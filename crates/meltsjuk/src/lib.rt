@@ -6,12 +6,13 @@ use counting::Counted;
 use frames::Replied;
 ghost use mathlib.Core.Path.{_≡_};
 ghost use lib.ListN.{length};
-ghost use Rattle.ranking.specs.Services.{tooLittle, placesLeft, scratchLeft};
+ghost use Rattle.ranking.specs.Services.{tooLittle, placesLeft};
 ghost use Rattle.counting.specs.TableCount.{countedOf, scratchAfter};
 ghost use Rattle.best.specs.Chosen.{limitsOf, pricesOf};
 ghost use Rattle.frames.specs.Replies.{littleLent, outLeft};
 ghost use Rattle.meltsjuk.specs.Answers.{digitsLeft, countStatus, countOr};
 ghost use Rattle.meltsjuk.specs.Answers.{bestAsked, bestStatus, positionOr, partsOr, priceOr};
+ghost use Rattle.grid.specs.Grid.{scratchLeft};
 
 // Replying to one line, without its byte 10, as `frames::reply` does. Answers how many digits of the reply stand in `out`, two
 // where the line is refused; 0 where too little is lent, and nothing is touched.

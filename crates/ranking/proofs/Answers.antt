@@ -19,7 +19,7 @@ use Rattle.chains.specs.RoundTrip.{word-reads}
 use Rattle.chains.specs.Bounds.{word-bound}
 use Rattle.chains.specs.Chains.{Part}
 use Rattle.lent.specs.Lent.{filled, filled-first}
-use Rattle.grid.specs.Grid.{scratchSize}
+use Rattle.grid.specs.Grid.{scratchSize, scratchLeft}
 use Rattle.words.specs.Answers.{weighedOf}
 use Rattle.words.specs.declared.Weighed.the-variants.{Number, Over}
 use Rattle.words.specs.Records.{recordParts, judgedOf}
@@ -31,7 +31,7 @@ use Rattle.words.specs.declared.Written.the-variants as written
 use Rattle.words.specs.declared.Parted.{Parted}
 use Rattle.words.specs.declared.Parted.the-variants as parted
 use Rattle.counting.specs.TableCount.{TableAsked, asked-still-room}
-use Rattle.ranking.specs.Services.{Outcome, refused, gives, lentScratch, tooLittle, lent, scratchLeft}
+use Rattle.ranking.specs.Services.{Outcome, refused, gives, lentScratch, tooLittle, lent}
 use Rattle.ranking.specs.Services.{placedOf, answerOf, placesLeft, judgedAs, ofRecord, ofWord, standing, after, nextOf}
 use Rattle.ranking.specs.Outcomes.{standing-below, of-chain, of-gives, of-weighed, of-over, position-word}
 use Rattle.ranking.specs.Walks.{wordAt, WordFound, Tabled}

@@ -1,7 +1,7 @@
 -- The services that find a chain or its place in the list of n: document 01, 'Services and memory' and the table of refusals.
 --
 -- Each service has an outcome: a refusal by its number, or a chain of n. What it answers, and what it leaves in the places and in
--- the scratch, follow from the outcome alone, by one rule for all services.
+-- the scratch (`scratchLeft` in grid), follow from the outcome alone, by one rule for all services.
 -- Definitions only. Demand 2 as theorems on these answers is in RoundTrips.
 use mathlib.Core.Bool.{Bool, true, cond, _||_}
 use mathlib.Core.List.{List, [], map}
@@ -49,10 +49,6 @@ answerOf (gives n c) = found.Chain n (position n c) (length c)
 unfoldable pub placesLeft : Outcome → List ℕ → List ℕ
 placesLeft (refused r) entry = entry
 placesLeft (gives n c) entry = filled 64 (map placeOf c) entry
-
--- The scratch at exit: untouched with refusal 1, else its first 5,248 zero and the rest untouched.
-unfoldable pub scratchLeft : Bool → List ℕ → List ℕ
-scratchLeft little entry = cond little entry (filled scratchSize [] entry)
 
 -- ---- the services
 

@@ -9,8 +9,8 @@ use words::Written;
 ghost use mathlib.Core.Path.{_≡_};
 ghost use lib.Dec.{ltb};
 ghost use lib.ListN.{length};
-ghost use Rattle.grid.specs.Grid.{scratchSize};
-ghost use Rattle.ranking.specs.Services.{lent, tooLittle, answerOf, placesLeft, scratchLeft, atPosition, ofWord, nextOf};
+ghost use Rattle.grid.specs.Grid.{scratchSize, scratchLeft};
+ghost use Rattle.ranking.specs.Services.{lent, tooLittle, answerOf, placesLeft, atPosition, ofWord, nextOf};
 ghost use Rattle.ranking.specs.Services.{ofRecord, placedOf, lentScratch};
 
 // Where a record's chain stands, or the refusal.

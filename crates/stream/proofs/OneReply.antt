@@ -16,11 +16,11 @@ use lib.Seq.{length-take-le, set-split}
 use Rattle.lent.specs.Lent.{filled, length-filled, filled-first}
 use Rattle.lent.specs.Parts.{part-lent, part-back}
 use Rattle.digits.specs.DigitLaws.{length-digits}
-use Rattle.ranking.specs.Services.{scratchLeft}
 use Rattle.frames.specs.Replies.{Reply, refusedAs, servedWith, digitsIn, replyTo, replyOf, littleLent, repliedOf, answerTo, outLeft}
 use Rattle.frames.specs.ReplyLaws.{reply-short}
 use Rattle.stream.specs.Answers.{behindOne}
 use Rattle.stream.specs.Pieces.{digitsTold, Adds}
+use Rattle.grid.specs.Grid.{scratchLeft}
 
 -- ---- what `frames::reply` gives
 

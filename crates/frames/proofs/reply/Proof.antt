@@ -6,8 +6,7 @@ use Prim.Native.Nat.{ℕ, _<_}
 use borrow.Author.Needs.{needs}
 use borrow.Author.Tests.{lt-ltb, le-ltb}
 use lib.ListN.{length}
-use Rattle.grid.specs.Grid.{scratchSize}
-use Rattle.ranking.specs.Services.{scratchLeft}
+use Rattle.grid.specs.Grid.{scratchSize, scratchLeft}
 use Rattle.lines.specs.Lines.{shapeOf, shapeCode}
 use Rattle.lines.specs.LineLaws.{refused-shape}
 use Rattle.lines.specs.declared.Shape.the-variants as shape

@@ -9,9 +9,9 @@ use borrow.Author.Tests.{le-ltb}
 use lib.Dec.{ltb}
 use lib.ListN.{length, length-map}
 use Rattle.chains.specs.Bounds.{parts-bound}
-use Rattle.grid.specs.Grid.{scratchSize}
+use Rattle.grid.specs.Grid.{scratchSize, scratchLeft}
 use Rattle.parts.specs.Parts.{placeOf}
-use Rattle.ranking.specs.Services.{Outcome, refused, gives, lentScratch, scratchLeft, placedOf, ofRecord}
+use Rattle.ranking.specs.Services.{Outcome, refused, gives, lentScratch, placedOf, ofRecord}
 use Rattle.ranking.specs.Outcomes.{record-gives}
 use Rattle.ranking.specs.declared.Placed.{Placed}
 use Rattle.ranking.specs.declared.Placed.the-variants as placed
