@@ -16,7 +16,7 @@ use lib.Seq.{getD-set-same, getD-set-other, set-comm, drop-set-lt, getD-drop, dr
 use borrow.Rule.Slice.PartMut.{midOf, putMid, same-len-mid}
 use Rattle.lent.specs.Parts.{part-lent, part-back, kept-behind}
 use Rattle.grid.specs.Grid.{Meaning, Row, Table, RowAsked, RowFilled, RowsAsked, RowsFilled}
-use Rattle.grid.specs.Rests.{third-of-row, row-above, below-last-row, restAt}
+use Rattle.grid.specs.Rests.{third-of-row, row-above, below-last-row, rest-dead, restAt}
 
 -- The rows from i on can be asked for where those from b on can.
 pub rows-from : {b m i : ℕ} {l : List ℕ} → RowsAsked b m l → b ≤ i → i ≤ 41 → RowsAsked i (m / 3 ^ (i - b)) l
@@ -34,10 +34,14 @@ rows-from {b} {m} {i} r p h =
 module _ (G : Meaning) where
   -- ---- a row
 
-  pub no-column : (b m : ℕ) (part : List ℕ) → RowFilled G b m 64 part part
-  no-column b m part =
+  -- Where nothing is left from column j on, nothing is to be filled there.
+  pub dead-columns : (b m j : ℕ) (part : List ℕ) → m < 2 ^ j → RowFilled G b m j part part
+  dead-columns b m j part h =
       record {
-        row = record { free = λ i h k. absurd (omega arith); after-a = λ i h k. absurd (omega arith) };
+        row = record {
+          free = λ i l u s. absurd (omega (arith, rest-dead m j i h l));
+          after-a = λ i l u s. absurd (omega (arith, rest-dead m j i h l));
+        };
         same = refl;
         later = refl;
       }
@@ -75,11 +79,11 @@ module _ (G : Meaning) where
 
       -- of one reader, whose number of column i stands at p i
       at : (p : ℕ → ℕ) (r : Bool) → ((i : ℕ) → j < i → 2 * j + 2 ≤ p i) → getD both (p j) 0 ≡ G j b r (m / 2 ^ j)
-          → ((i : ℕ) → k ≤ i → i < 64 → getD part (p i) 0 ≡ G i b r (m / 2 ^ i))
-          → (i : ℕ) → j ≤ i → i < 64 → getD both (p i) 0 ≡ G i b r (m / 2 ^ i)
-      at p r far here there i l u =
+          → ((i : ℕ) → k ≤ i → i < 64 → 1 ≤ m / 2 ^ i → getD part (p i) 0 ≡ G i b r (m / 2 ^ i))
+          → (i : ℕ) → j ≤ i → i < 64 → 1 ≤ m / 2 ^ i → getD both (p i) 0 ≡ G i b r (m / 2 ^ i)
+      at p r far here there i l u left =
           ⊎-elim (λ (s : j ≡ i). subst (λ (c : ℕ). getD both (p c) 0 ≡ G c b r (m / 2 ^ c)) s here)
-          (λ (s : j < i). further (p i) (far i s) ∙ there i (omega arith) u)
+          (λ (s : j < i). further (p i) (far i s) ∙ there i (omega arith) u left)
           (eq-or-lt-of-le l)
 
   -- The same with the other order of the two stores.
@@ -106,10 +110,10 @@ module _ (G : Meaning) where
         above = λ two. rw (f .later) (r .above two);
       }
 
-  -- and is read there.
-  pub read-above : {b m q : ℕ} {part : List ℕ} (a : ℕ) → RowAsked G b m q part → 2 ≤ m → a < 64
+  -- and is read there, where something is left.
+  pub read-above : {b m q : ℕ} {part : List ℕ} (a : ℕ) → RowAsked G b m q part → 2 ≤ m → a < 64 → 1 ≤ q / 2 ^ a
       → getD part (128 + 2 * a) 0 ≡ G a (suc b) true (q / 2 ^ a)
-  read-above {part = part} a r two h = rw (← getD-drop 128 part (2 * a) 0) (r .above two .free a (omega arith) h)
+  read-above {part = part} a r two h left = rw (← getD-drop 128 part (2 * a) 0) (r .above two .free a (omega arith) h left)
 
   -- ---- the rows
 
@@ -210,12 +214,17 @@ module _ (G : Meaning) where
 
   -- ---- reading
 
-  pub read-free : (n : ℕ) (l : List ℕ) (a b : ℕ) → Table G n l → a < 64 → b < 41
+  pub read-free : (n : ℕ) (l : List ℕ) (a b : ℕ) → Table G n l → a < 64 → b < 41 → 1 ≤ restAt n a b
       → getD l (128 * b + 2 * a) 0 ≡ G a b true (restAt n a b)
-  read-free n l a b t ha hb =
-      rw (← getD-drop (128 * b) l (2 * a) 0, t .row b (omega arith) hb .free a (omega arith) ha, sub-zero)
+  read-free n l a b t ha hb left =
+      rw (← getD-drop (128 * b) l (2 * a) 0, t .row b (omega arith) hb .free a (omega arith) ha (rw sub-zero left), sub-zero)
 
-  pub read-after-a : (n : ℕ) (l : List ℕ) (a b : ℕ) → Table G n l → a < 64 → b < 41
+  pub read-after-a : (n : ℕ) (l : List ℕ) (a b : ℕ) → Table G n l → a < 64 → b < 41 → 1 ≤ restAt n a b
       → getD l (128 * b + 2 * a + 1) 0 ≡ G a b false (restAt n a b)
-  read-after-a n l a b t ha hb =
-      rw (add-assoc, ← getD-drop (128 * b) l (2 * a + 1) 0, t .row b (omega arith) hb .after-a a (omega arith) ha, sub-zero)
+  read-after-a n l a b t ha hb left =
+      rw (
+        add-assoc,
+        ← getD-drop (128 * b) l (2 * a + 1) 0,
+        t .row b (omega arith) hb .after-a a (omega arith) ha (rw sub-zero left),
+        sub-zero,
+      )
