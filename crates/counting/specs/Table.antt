@@ -1,4 +1,4 @@
--- The table of counts. A cell holds how many words its reader can go on with at its rest, and 0 where the rest is 0.
+-- The table of counts. A cell holds how many words its reader can go on with at its rest.
 --
 -- In this order: the meaning of a cell, and what filling the table leaves in the scratch; what the live columns of a row ask; that
 -- one row step serves every row; each cell from the one right of it and the one above it, with no choice on the remainder; the
@@ -8,7 +8,6 @@ use mathlib.Core.Bool.{Bool, true, false}
 use mathlib.Core.List.{List}
 use Prim.Native.Nat.{ℕ, zero, suc, _+_, _-_, _*_, _/_, _%_, _^_, _≤_, _<_}
 use native.Mathlib.Omega.{arith}
-use native.Mathlib.Nat.{div-one}
 use lib.ListN.{getD}
 use Rattle.chains.specs.Listing.{count}
 use Rattle.chains.specs.Counts.{
@@ -22,16 +21,12 @@ use Rattle.chains.specs.Counts.{
   ways-pos,
 }
 use Rattle.grid.specs.Grid.{Meaning, RowFrom, Table, RowAsked, RowFilled, RowsFilled}
+use Rattle.grid.specs.Rests.{rest-origin}
 use Rattle.grid.specs.Fill.{read-free}
-
--- How many words the reader can go on with at the rest m; none where nothing is left, so that a table has zeros there.
-unfoldable pub waysIn : Bool → ℕ → ℕ
-waysIn f zero = 0
-waysIn f (suc m) = ways f (suc m)
 
 -- The point itself makes no difference.
 abbrev pub countCell : Meaning
-countCell a b f m = waysIn f m
+countCell a b f m = ways f m
 
 -- The scratch holds the table of n, and what stands behind it is as it was at entry.
 abbrev pub CountsIn : ℕ → List ℕ → List ℕ → Type 0
@@ -65,55 +60,33 @@ filled-of-any c f = record { row = row-of-any c (f .row); same = f .same; later 
 
 -- ---- the cells
 
-pub cell-live : (f : Bool) (m : ℕ) → 1 ≤ m → waysIn f m ≡ ways f m
-unfolding waysIn
-cell-live f zero h = absurd (omega arith)
-cell-live f (suc m) h = refl
-
-pub cell-dead : (f : Bool) → waysIn f 0 ≡ 0
-unfolding waysIn
-cell-dead f = refl
-
-pub cell-at-1 : (f : Bool) → waysIn f 1 ≡ 1
-cell-at-1 f = omega (arith, cell-live f 1 (omega arith), ways-at-most f 1 (omega arith), ways-pos f 1 (omega arith))
-
-pub cell-at-most : (f : Bool) (m : ℕ) → waysIn f m ≤ m
-unfolding waysIn
-cell-at-most f zero = omega arith
-cell-at-most f (suc m) = ways-at-most f (suc m) (omega arith)
+pub cell-at-1 : (f : Bool) → ways f 1 ≡ 1
+cell-at-1 f = omega (arith, ways-at-most f 1 (omega arith), ways-pos f 1 (omega arith))
 
 -- From a rest of 2 on, the remainder by three says whether the cell above counts: for the reader after a has risen where it is 1,
--- for the free reader also where it is 0. The two factors are 0 or 1.
-pub cell-after-a : (m : ℕ) → 2 ≤ m → waysIn false m ≡ waysIn false (m / 2) + waysIn true (m / 3) * (m % 3 % 2)
-cell-after-a m h = go (m % 3) refl
-  where
-    here : waysIn false m ≡ ways false m
-    here = cell-live false m (omega arith)
+-- for the free reader also where it is 0. The two factors are 0 or 1. Where nothing is left above, x may be any number: the rest is
+-- 2 then, and both factors are 0.
+module _ (m x : ℕ) (two : 2 ≤ m) (above : 1 ≤ m / 3 → x ≡ ways true (m / 3)) where
+  pub cell-after-a : ways false (m / 2) + x * (m % 3 % 2) ≡ ways false m
+  cell-after-a = go (m % 3) refl
+    where
+      go : (r : ℕ) → m % 3 ≡ r → ways false (m / 2) + x * (r % 2) ≡ ways false m
+      go zero e = omega (arith, ways-rem-0-after-a m (omega arith) e)
+      go (suc zero) e = omega (arith, above (omega arith), ways-rem-1 false m e)
+      go (suc (suc zero)) e = omega (arith, ways-rem-2 false m e)
+      go (suc (suc (suc r))) e = absurd (omega arith)
 
-    right : waysIn false (m / 2) ≡ ways false (m / 2)
-    right = cell-live false (m / 2) (omega arith)
-
-    go : (r : ℕ) → m % 3 ≡ r → waysIn false m ≡ waysIn false (m / 2) + waysIn true (m / 3) * (r % 2)
-    go zero e = omega (arith, here, right, ways-rem-0-after-a m (omega arith) e)
-    go (suc zero) e = omega (arith, here, right, cell-live true (m / 3) (omega arith), ways-rem-1 false m e)
-    go (suc (suc zero)) e = omega (arith, here, right, ways-rem-2 false m e)
-    go (suc (suc (suc r))) e = absurd (omega arith)
-
-pub cell-free : (m : ℕ) → 2 ≤ m → waysIn true m ≡ waysIn false m + waysIn true (m / 3) * ((2 - m % 3) / 2)
-cell-free m h = go (m % 3) refl
-  where
-    here : (f : Bool) → waysIn f m ≡ ways f m
-    here f = cell-live f m (omega arith)
-
-    go : (r : ℕ) → m % 3 ≡ r → waysIn true m ≡ waysIn false m + waysIn true (m / 3) * ((2 - r) / 2)
-    go zero e =
-        let above = cell-live true (m / 3) (omega arith) in
-        omega (arith, here true, here false, ways-rem-0-free m (omega arith) e, ways-rem-0-after-a m (omega arith) e)
-    go (suc zero) e = omega (arith, here true, here false, ways-rem-1 true m e, ways-rem-1 false m e)
-    go (suc (suc zero)) e = omega (arith, here true, here false, ways-rem-2 true m e, ways-rem-2 false m e)
-    go (suc (suc (suc r))) e = absurd (omega arith)
+  pub cell-free : ways false m + x * ((2 - m % 3) / 2) ≡ ways true m
+  cell-free = go (m % 3) refl
+    where
+      go : (r : ℕ) → m % 3 ≡ r → ways false m + x * ((2 - r) / 2) ≡ ways true m
+      go zero e = omega (arith, above (omega arith), ways-rem-0-free m (omega arith) e, ways-rem-0-after-a m (omega arith) e)
+      go (suc zero) e = omega (arith, ways-rem-1 true m e, ways-rem-1 false m e)
+      go (suc (suc zero)) e = omega (arith, ways-rem-2 true m e, ways-rem-2 false m e)
+      go (suc (suc (suc r))) e = absurd (omega arith)
 
 -- ---- reading the count
 
 pub count-in : (n : ℕ) (l : List ℕ) → 1 ≤ n → Table countCell n l → getD l 0 0 ≡ count n
-count-in n l h t = read-free countCell n l 0 0 t (omega arith) (omega arith) ∙ rw (div-one, div-one, cell-live true n h, count-ways)
+count-in n l h t =
+    read-free countCell n l 0 0 t (omega arith) (omega arith) (rw (rest-origin n) h) ∙ rw (rest-origin n, count-ways)

@@ -27,8 +27,8 @@ pub fn plain_count(n: u64) -> Counted
 }
 
 // The count of any n, with a scratch of at least 5,248 numbers, whatever they hold; refusal 1 with a smaller one. Leaves the table
-// of the counts at the points of n in the scratch, and everything untouched where it refuses. The table has 0 where the rest is 0;
-// the number 0 has one chain, the empty one.
+// of the counts at the points of n in the scratch, and everything untouched where it refuses. The table says nothing where nothing
+// is left, so the number 0 is answered apart: it has one chain, the empty one.
 pub fn fill_counts(n: u64, scratch: &mut [u64]) -> Counted
     ensures { λ r. ⌜ r ≡ countedOf n (length (now (scratch .entry))) ⌝ }
     ensures { λ _. ⌜ TableAsked n (now (scratch .entry)) (now (scratch .exit)) ⌝ }

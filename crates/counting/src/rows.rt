@@ -17,19 +17,6 @@ fn live_columns(m: u64) -> usize
     64 - u64::leading_zeros(m) as usize
 }
 
-// The dead columns, from `live` on: the rest is 0 there, and so are the numbers.
-fn clear_dead(part: &mut [u64], m: u64, live: usize)
-    requires { ⌜ (m < 2 ^ live) × (live ≤ 64) × (128 ≤ length (now part)) ⌝ }
-    ensures { λ _. ⌜ RowFilled countCell 0 m live (now (part .entry)) (now (part .exit)) ⌝ }
-{
-    let mut a = 64;
-    while live < a {
-        a -= 1;
-        part[2 * a] = 0;
-        part[2 * a + 1] = 0;
-    }
-}
-
 // The live columns below `top`, from there down. The number above counts for both readers where the remainder by three of the
 // column's rest is 1, and where it is 0 for the free reader alone.
 //
@@ -55,13 +42,12 @@ fn fill_live(part: &mut [u64], m: u64, q: u64, top: usize)
 }
 
 // The row step: one row, in the part that begins at it, the row above at 128. The last live column has the rest 1, and for both
-// readers one way.
+// readers one way; behind it nothing is left, and nothing is written.
 fn fill_row(part: &mut [u64], m: u64, q: u64)
     requires { ⌜ RowAsked countCell 0 m q (now part) ⌝ }
     ensures { λ _. ⌜ RowFilled countCell 0 m 0 (now (part .entry)) (now (part .exit)) ⌝ }
 {
     let live = live_columns(m);
-    clear_dead(part, m, live);
     if live == 0 {
         return;
     }

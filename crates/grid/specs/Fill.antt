@@ -3,7 +3,7 @@
 -- In this order: a row, from the column behind the last down, one column with its two stores at a time; the rows, from the row
 -- behind the last down, each in the part of the scratch that begins at it; reading a cell of the whole table.
 use mathlib.Core.Path.{_≡_, refl, sym, ap, _∙_, subst, subst₂}
-use mathlib.Core.Logic.{_≢_, ⊎-elim}
+use mathlib.Core.Logic.{⊎-elim}
 use mathlib.Core.Bool.{Bool, true, false}
 use mathlib.Core.List.{List}
 use Prim.Native.Nat.{ℕ, suc, _+_, _-_, _*_, _^_, _/_, _≤_, _<_}
@@ -12,7 +12,7 @@ use native.Mathlib.Numerals.{add-one}
 use native.Mathlib.Omega.{arith}
 use lib.ListN.{length, getD, drop, set, length-set, length-drop}
 use lib.Pow.{pow-add}
-use lib.Seq.{getD-set-same, getD-set-other, set-comm, drop-set-lt, getD-drop, drop-drop}
+use lib.Seq.{getD-set-same, getD-set-other, drop-set-lt, getD-drop, drop-drop}
 use borrow.Rule.Slice.PartMut.{midOf, putMid, same-len-mid}
 use Rattle.lent.specs.Parts.{part-lent, part-back, kept-behind}
 use Rattle.grid.specs.Grid.{Meaning, Row, Table, RowAsked, RowFilled, RowsAsked, RowsFilled}
@@ -85,14 +85,6 @@ module _ (G : Meaning) where
           ⊎-elim (λ (s : j ≡ i). subst (λ (c : ℕ). getD both (p c) 0 ≡ G c b r (m / 2 ^ c)) s here)
           (λ (s : j < i). further (p i) (far i s) ∙ there i (omega arith) u left)
           (eq-or-lt-of-le l)
-
-  -- The same with the other order of the two stores.
-  pub column-free-first : (b m j k : ℕ) (entry part : List ℕ) (x y : ℕ) → k ≡ suc j → k ≤ 64 → 128 ≤ length entry
-      → x ≡ G j b true (m / 2 ^ j) → y ≡ G j b false (m / 2 ^ j) → RowFilled G b m k entry part
-      → RowFilled G b m j entry (set (set part (2 * j) x) (2 * j + 1) y)
-  column-free-first b m j k entry part x y e h g ex ey f =
-      let ne : 2 * j ≢ 2 * j + 1 = omega arith in
-      rw (set-comm part (2 * j) (2 * j + 1) x y ne) (column b m j k entry part x y e h g ex ey f)
 
   -- A row filled from j on, and then further: what stood there between counts no more.
   pub filled-on : {b m j k : ℕ} {entry between part : List ℕ}

@@ -20,7 +20,7 @@ use Rattle.chains.specs.Members.{member-words}
 use Rattle.chains.specs.Positions.{words-at-position, word-at-position, position-rise-a, position-rise-b, word-rise-a, word-rise-b}
 use Rattle.grid.specs.Rests.{restAt, rest-origin, rest-right, rest-up, point-low}
 use Rattle.grid.specs.Fill.{read-after-a}
-use Rattle.counting.specs.Table.{countCell, cell-live}
+use Rattle.counting.specs.Table.{countCell}
 use Rattle.ranking.specs.Walks.{Tabled, RankWalked, wordAt, WordWalked, WordRisen, WordFound}
 use Rattle.ranking.specs.Points.{Between, between, drop-more, take-more, take-stored}
 
@@ -32,8 +32,7 @@ pub rising-cell :
 rising-cell n a b s t h =
     let k : 1 ≤ restAt n (a + 1) b = rw rest-right (omega arith) in
     ap (λ (i : ℕ). getD s i 0) (omega arith)
-    ∙ read-after-a countCell n s (a + 1) b (t .table) (omega arith) (omega arith)
-    ∙ cell-live false (restAt n (a + 1) b) k
+    ∙ read-after-a countCell n s (a + 1) b (t .table) (omega arith) (omega arith) k
     ∙ ap (ways false) (rest-right n a b)
 
 -- ---- the lists at a rest of 0 and of 1

@@ -13,7 +13,8 @@ use Rattle.grid.specs.Grid.{RowAsked, RowFilled}
 use Rattle.grid.specs.Rests.{half-of-rest, third-of-rest}
 use Rattle.grid.specs.Masks.{onesOf, zerosOf, ones-bit, zeros-bit}
 use Rattle.grid.specs.Fill.{column, asked-still, read-above}
-use Rattle.counting.specs.Table.{waysIn, countCell, LiveAsked, cell-at-1, cell-at-most, cell-after-a, cell-free}
+use Rattle.chains.specs.Counts.{ways, ways-at-most}
+use Rattle.counting.specs.Table.{countCell, LiveAsked, cell-at-1, cell-after-a, cell-free}
 use Rattle.counting.proofs.rows.fill_live.Statement.{statement}
 use Rattle.counting.proofs.rows.fill_live.Tie as tie
 use Rattle.counting.proofs.rows.fill_live.Reads as reads
@@ -24,7 +25,7 @@ pub record Filling (m top : ℕ) (entry part : List ℕ) (right a : ℕ) : Type 
   pub filled : RowFilled countCell 0 m a entry part
   pub last : a ≤ top
   pub live : 1 ≤ m / 2 ^ a
-  pub carried : right ≡ waysIn false (m / 2 ^ a)
+  pub carried : right ≡ ways false (m / 2 ^ a)
 
 begin : {m q top : ℕ} {entry : List ℕ} → LiveAsked m q top entry → Filling m top entry entry 1 top
 begin p =
@@ -63,21 +64,24 @@ module _ {m q top : ℕ} {entry part : List ℕ} {right a : ℕ} (p : LiveAsked 
   within : 128 + 2 * (a - 1) < length part
   within = omega (arith, asked .room-above above-there, p .last, f .last)
 
-  above : getD part (128 + 2 * (a - 1)) 0 ≡ waysIn true (m / 2 ^ (a - 1) / 3)
-  above =
+  above : 1 ≤ m / 2 ^ (a - 1) / 3 → getD part (128 + 2 * (a - 1)) 0 ≡ ways true (m / 2 ^ (a - 1) / 3)
+  above left =
       read-above countCell (a - 1) asked above-there (omega (arith, p .last, f .last))
+      (rw (p .asked .third, third-of-rest m (a - 1)) left)
       ∙ rw (p .asked .third, third-of-rest m (a - 1))
 
-  risen : risenAt m q part right (a - 1) ≡ waysIn false (m / 2 ^ (a - 1))
-  risen = rw (f .carried, above, p .asked .third, ones-bit m (a - 1), ← half) (sym (cell-after-a (m / 2 ^ (a - 1)) two))
+  risen : risenAt m q part right (a - 1) ≡ ways false (m / 2 ^ (a - 1))
+  risen =
+      rw (f .carried, p .asked .third, ones-bit m (a - 1), ← half)
+      (cell-after-a (m / 2 ^ (a - 1)) (getD part (128 + 2 * (a - 1)) 0) two above)
 
-  free : freeAt m q part right (a - 1) ≡ waysIn true (m / 2 ^ (a - 1))
+  free : freeAt m q part right (a - 1) ≡ ways true (m / 2 ^ (a - 1))
   free =
-      rw (risen, above, p .asked .third, zeros-bit m (a - 1) fits (omega (arith, p .last, f .last)))
-      (sym (cell-free (m / 2 ^ (a - 1)) two))
+      rw (risen, p .asked .third, zeros-bit m (a - 1) fits (omega (arith, p .last, f .last)))
+      (cell-free (m / 2 ^ (a - 1)) (getD part (128 + 2 * (a - 1)) 0) two above)
 
   below : freeAt m q part right (a - 1) < 2 ^ 64
-  below = omega (arith, free, cell-at-most true (m / 2 ^ (a - 1)), shr-le m (a - 1))
+  below = omega (arith, free, ways-at-most true (m / 2 ^ (a - 1)) (omega (arith, two)), shr-le m (a - 1))
 
   next : Filling m top entry
       (set (set part (2 * (a - 1) + 1) (risenAt m q part right (a - 1))) (2 * (a - 1)) (freeAt m q part right (a - 1)))

@@ -1,5 +1,5 @@
--- `rows::fill_row` meets its contract. The dead columns are filled, then the last live one, whose rest is 1, then those below it. A
--- row with the rest 0 is all dead.
+-- `rows::fill_row` meets its contract. The last live column has the rest 1, and behind it nothing is left; then come those below
+-- it. In a row with the rest 0 nothing is left at all.
 use mathlib.Core.Path.{_≡_, sym}
 use mathlib.Core.List.{List}
 use mathlib.Core.Bool.{Bool, true, false}
@@ -9,13 +9,14 @@ use borrow.Author.Needs.{needs}
 use lib.ListN.{set, length-set}
 use Rattle.grid.specs.Grid.{RowAsked, RowFilled}
 use Rattle.grid.specs.Rests.{rest-at-top}
-use Rattle.grid.specs.Fill.{column, filled-on, asked-still}
-use Rattle.counting.specs.Table.{waysIn, countCell, LiveAsked, cell-at-1}
+use Rattle.grid.specs.Fill.{dead-columns, column, filled-on, asked-still}
+use Rattle.chains.specs.Counts.{ways}
+use Rattle.counting.specs.Table.{countCell, LiveAsked, cell-at-1}
 use Rattle.counting.proofs.rows.fill_row.Statement.{statement}
 use Rattle.counting.proofs.rows.fill_row.Tie as tie
 
--- The column `top`, where the columns from live = top + 1 on are filled and dead.
-module _ {m q live : ℕ} {entry part : List ℕ} (r : RowAsked countCell 0 m q entry) (f : RowFilled countCell 0 m live entry part)
+-- The column `top`: behind it, from live = top + 1 on, nothing is left.
+module _ {m q live : ℕ} {part : List ℕ} (r : RowAsked countCell 0 m q part)
     (l : (live ≤ 64) × (m < 2 ^ live) × (2 ^ live ≤ 2 * m + 1)) (h : 0 < live) where
   at-top : m / 2 ^ (live - 1) ≡ 1
   at-top =
@@ -24,11 +25,13 @@ module _ {m q live : ℕ} {entry part : List ℕ} (r : RowAsked countCell 0 m q 
       let high : m < 2 ^ suc (live - 1) = rw e at (l .1) in
       rest-at-top m (live - 1) (omega arith) high
 
-  one : (g : Bool) → 1 ≡ waysIn g (m / 2 ^ (live - 1))
+  one : (g : Bool) → 1 ≡ ways g (m / 2 ^ (live - 1))
   one g = rw at-top (sym (cell-at-1 g))
 
-  top-filled : RowFilled countCell 0 m (live - 1) entry (set (set part (2 * (live - 1) + 1) 1) (2 * (live - 1)) 1)
-  top-filled = column countCell 0 m (live - 1) live entry part 1 1 (omega arith) (l .0) (r .room) (one true) (one false) f
+  top-filled : RowFilled countCell 0 m (live - 1) part (set (set part (2 * (live - 1) + 1) 1) (2 * (live - 1)) 1)
+  top-filled =
+      column countCell 0 m (live - 1) live part part 1 1 (omega arith) (l .0) (r .room) (one true) (one false)
+      (dead-columns countCell 0 m live part (l .1))
 
   live-asked : LiveAsked m q (live - 1) (set (set part (2 * (live - 1) + 1) 1) (2 * (live - 1)) 1)
   live-asked =
@@ -36,21 +39,20 @@ module _ {m q live : ℕ} {entry part : List ℕ} (r : RowAsked countCell 0 m q 
 
 returns : tie.Need-returns
 returns c =
-    let e : c .before .before .before .before .before .live-columns .result ≡ 0 = omega arith in
-    rw e at (c .before .before .before .clear-dead .ensures)
+    let l = c .before in
+    let args = l .before .before .args in
+    let e : l .live-columns .result ≡ 0 = omega arith in
+    rw e at (dead-columns countCell 0 (args .m) (l .live-columns .result) (args .part .now) (l .live-columns .ensures .1))
 
 fill-live-requires : tie.Need-fill-live-requires
 fill-live-requires c κs =
-    let cleared = c .before .before .before .before in
-    live-asked (cleared .before .before .before .before .pre) (cleared .clear-dead .ensures)
-    (cleared .before .before .live-columns .ensures) (omega arith)
+    let l = c .before .before in
+    live-asked (l .before .before .pre) (l .live-columns .ensures) (omega arith)
 
 returns-2 : tie.Need-returns-2
 returns-2 c =
-    let cleared = c .before .before .before .before .before .before .before in
-    filled-on countCell
-    (top-filled (cleared .before .before .before .before .pre) (cleared .clear-dead .ensures)
-    (cleared .before .before .live-columns .ensures) (omega arith))
+    let l = c .before .before .before .before .before in
+    filled-on countCell (top-filled (l .before .before .pre) (l .live-columns .ensures) (omega arith))
     (c .before .before .fill-live .ensures)
 
 pub fill-row-spec : {M : Type 1} → statement M
@@ -58,8 +60,6 @@ fill-row-spec =
     tie.close
     (tie.spec
     (λ c κs. search needs)
-    (λ c κs. search needs)
-    (λ c. search needs)
     returns
     (λ c. search needs)
     (λ c. search needs)
