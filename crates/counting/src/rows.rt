@@ -6,7 +6,6 @@
 // a row, hold the remainders by three of all its rests, so no cell is divided, and a bit of a mask makes a factor and no branch. A
 // row is 128 numbers: 64 columns of two.
 ghost use Prim.Native.Nat.{_+_, _*_, _^_, _≤_, _<_};
-ghost use lib.ListN.{length};
 ghost use Rattle.grid.specs.Grid.{RowAsked, RowFilled, RowsAsked, RowsFilled};
 ghost use Rattle.counting.specs.Table.{countCell, LiveAsked};
 

@@ -4,7 +4,7 @@
 -- the scratch (`scratchLeft` in grid), follow from the outcome alone, by one rule for all services.
 -- Definitions only. Demand 2 as theorems on these answers is in RoundTrips.
 use mathlib.Core.Bool.{Bool, true, cond, _||_}
-use mathlib.Core.List.{List, [], map}
+use mathlib.Core.List.{List, map}
 use Prim.Native.Nat.{ℕ, _+_, _^_}
 use lib.Dec.{ltb, leb}
 use lib.ListN.{length}
