@@ -1,35 +1,29 @@
 -- How the key table is filled: what the calls that fill it ask and leave, and the laws by which they do.
 --
--- In this order: a run of cells with no word; the columns of a row below one that is filled; columns with no word; the end of a
+-- In this order: a run of cells with no word; the columns of a row below one that is filled; columns outside the grid; the end of a
 -- row, within the limit on doublings or behind it; what the rows ask. The laws over any meaning, those of the rows too, are in
 -- grid, Fill.
-use mathlib.Core.Path.{_≡_, refl, sym, ap, _∙_}
+use mathlib.Core.Path.{_≡_, refl, sym, _∙_}
 use mathlib.Core.Logic.{_⊎_, inl, inr, ⊎-elim}
 use mathlib.Core.Bool.{Bool, true, false}
 use mathlib.Core.List.{List}
 use Prim.Native.Nat.{ℕ, suc, _+_, _-_, _*_, _/_, _%_, _^_, _≤_, _<_, min}
-use native.Mathlib.Nat.{
-  eq-or-lt-of-le,
-  le-div-iff-mul-le,
-  pow-suc,
-  zero-div,
-}
+use native.Mathlib.Nat.{eq-or-lt-of-le, le-div-iff-mul-le, le-trans, lt-of-not-le, pow-suc}
 use native.Mathlib.Omega.{arith}
 use lib.Count.{leadingZeros, leading-top}
 use lib.ListN.{length, getD, set, drop, length-set}
 use lib.Pow.{pow-mono, pow-pos, shr-le}
-use lib.Seq.{getD-set-same, getD-set-other, drop-set-lt, drop-drop}
+use lib.Seq.{getD-set-same, getD-set-other, drop-set-lt}
 use Rattle.grid.specs.Grid.{Meaning, RowFrom, RowAsked, RowFilled, RowsAsked}
 use Rattle.grid.specs.Rests.{half-of-rest, third-of-rest, rest-dead, rest-at-top}
 use Rattle.grid.specs.Masks.{onesOf, zerosOf, ones-bit, zeros-bit}
-use Rattle.grid.specs.Fill.{column, asked-still, read-above}
+use Rattle.grid.specs.Fill.{dead-columns, column, asked-still, read-above}
 use Rattle.best.specs.KeyTable.{
   noKey,
   Low,
   keyCell,
-  Dead,
   cell-at-most,
-  cell-dead,
+  cell-outside,
   cell-at-1,
   pick,
   pick-low,
@@ -39,16 +33,16 @@ use Rattle.best.specs.KeyTable.{
 
 -- ---- a run with no word
 
--- No word from `from` up to but without `end`, and what stands behind as it was.
+-- No word from `from` up to but without `end`, and what stands behind the row as it was.
 pub record NoKeys (from end : ℕ) (entry l : List ℕ) : Type 0 where
   pub keys : (i : ℕ) → from ≤ i → i < end → getD l i 0 ≡ noKey
   pub same : length l ≡ length entry
-  pub later : drop end l ≡ drop end entry
+  pub later : drop 128 l ≡ drop 128 entry
 
 pub none-yet : (from : ℕ) (l : List ℕ) → NoKeys from from l l
 none-yet from l = record { keys = λ i h k. absurd (omega arith); same = refl; later = refl }
 
-pub none-more : {from i : ℕ} {entry l : List ℕ} → NoKeys from i entry l → from ≤ i → i < length l → NoKeys from (i + 1) entry (set l i noKey)
+pub none-more : {from i : ℕ} {entry l : List ℕ} → NoKeys from i entry l → i < 128 → i < length l → NoKeys from (i + 1) entry (set l i noKey)
 none-more {from} {i} {entry} {l} n h k =
     record {
       keys = λ j p q.
@@ -56,7 +50,7 @@ none-more {from} {i} {entry} {l} n h k =
           (λ (s : j < i). getD-set-other l i j noKey 0 (omega arith) ∙ n .keys j p s)
           (eq-or-lt-of-le (let l : j ≤ i = omega arith in l));
       same = length-set l i noKey ∙ n .same;
-      later = drop-set-lt (i + 1) l i noKey (omega arith) ∙ sym (drop-drop 1 i l) ∙ ap (drop 1) (n .later) ∙ drop-drop 1 i entry;
+      later = drop-set-lt 128 l i noKey h ∙ n .later;
     }
 
 -- ---- the columns below one that is filled
@@ -101,17 +95,34 @@ module _ {costs : List ℕ} {A B b m q start right : ℕ} {entry : List ℕ} (as
     pub below-room : 256 ≤ length part
     below-room = omega (arith, s .filled .same, asked .asked .room-above two)
 
-    above-is : above ≡ G j (suc b) true (m / 2 ^ j / 3)
-    above-is =
-        read-above G j (asked-still G (asked .asked) (s .filled)) two (omega (arith, s .within, asked .last))
+    above-is : 3 ≤ m / 2 ^ j → above ≡ G j (suc b) true (m / 2 ^ j / 3)
+    above-is three =
+        let left : 1 ≤ q / 2 ^ j = rw (asked .asked .third, third-of-rest) (omega arith) in
+        read-above G j (asked-still G (asked .asked) (s .filled)) two (omega (arith, s .within, asked .last)) left
         ∙ rw (asked .asked .third, third-of-rest)
 
     after-is : after ≡ G (suc j) b false (m / 2 ^ j / 2)
     after-is = s .number ∙ rw (e, half-of-rest)
 
-    -- No sum wraps.
-    pub above-fits : (l : ℕ) → above + getD costs l 0 ≤ 2 * noKey
-    above-fits l = omega (arith, above-is, cell-at-most costs A B j (suc b) true (m / 2 ^ j / 3), asked .low .each l)
+    -- No sum wraps: where a bit chooses the number above, something is left there.
+    above-low : m / 2 ^ j % 3 ≤ 1 → above ≤ noKey
+    above-low h =
+        let three : 3 ≤ m / 2 ^ j = omega (arith, two-left) in
+        omega (arith, above-is three, cell-at-most costs A B j (suc b) true (m / 2 ^ j / 3))
+
+    pub ones-fits : pick (onesOf m q / 2 ^ j % 2) above noKey + getD costs 3 0 ≤ 2 * noKey
+    ones-fits =
+        rw (asked .asked .third, ones-bit m j)
+        (omega (arith, pick-low (m / 2 ^ j % 3 % 2) above noKey noKey (λ h. above-low (omega arith)) (omega arith), asked .low .each 3))
+
+    pub zeros-fits : m < 2 ^ 64 → pick (zerosOf m q / 2 ^ j % 2) above noKey + getD costs 2 0 ≤ 2 * noKey
+    zeros-fits fits =
+        rw (asked .asked .third, zeros-bit m j fits (omega (arith, s .within, asked .last)))
+        (omega (
+          arith,
+          pick-low ((2 - m / 2 ^ j % 3) / 2) above noKey noKey (λ h. above-low (omega arith)) (omega arith),
+          asked .low .each 2,
+        ))
 
     pub after-fits : (bit : ℕ) → after + pick bit (getD costs 1 0) (getD costs 0 0) ≤ 2 * noKey
     after-fits bit =
@@ -119,52 +130,58 @@ module _ {costs : List ℕ} {A B b m q start right : ℕ} {entry : List ℕ} (as
           arith,
           after-is,
           cell-at-most costs A B (suc j) b false (m / 2 ^ j / 2),
-          pick-low bit _ _ noKey (asked .low .each 1) (asked .low .each 0),
+          pick-low bit _ _ noKey (λ h. asked .low .each 1) (asked .low .each 0),
         )
 
     -- The numbers x and y of column j, chosen by bits of the masks, are stored.
     pub below-more : {x y : ℕ} → m < 2 ^ 64
         → y
         ≡ min (after + pick (m / 2 ^ j % 2) (getD costs 1 0) (getD costs 0 0))
-        (min noKey (pick (onesOf m q / 2 ^ j % 2) (above + getD costs 3 0) noKey))
-        → x ≡ min y (pick (zerosOf m q / 2 ^ j % 2) (above + getD costs 2 0) noKey)
+        (min noKey (pick (onesOf m q / 2 ^ j % 2) above noKey + getD costs 3 0))
+        → x ≡ min y (pick (zerosOf m q / 2 ^ j % 2) above noKey + getD costs 2 0)
         → Below costs A B b m start entry (set (set part (2 * j + 1) y) (2 * j) x) j y
     below-more {x} {y} fits ey ex =
         let last : j < 64 = omega (arith, s .within, asked .last) in
         let y-is : y ≡ G j b false (m / 2 ^ j)
         = ey
-        ∙ rw (after-is, above-is, asked .asked .third, ones-bit m j) (sym (after-by-bits costs A B j b (m / 2 ^ j) (asked .low) two-left)) in
+        ∙ rw (after-is, asked .asked .third, ones-bit m j) (sym (after-by-bits costs A B j b (m / 2 ^ j) above two-left above-is)) in
         let x-is : x ≡ G j b true (m / 2 ^ j)
         = ex
-        ∙ rw (y-is, above-is, asked .asked .third, zeros-bit m j fits last)
-        (sym (free-by-bits costs A B j b (m / 2 ^ j) (asked .low) two-left)) in
+        ∙ rw (y-is, asked .asked .third, zeros-bit m j fits last)
+        (sym (free-by-bits costs A B j b (m / 2 ^ j) above two-left above-is)) in
         record {
           filled = column G b m j k entry part x y e (omega arith) (asked .asked .room) x-is y-is (s .filled);
           number = y-is;
           within = omega (arith, s .within);
         }
 
--- ---- columns with no word
+-- ---- columns outside the grid
 
-module _ (costs : List ℕ) (A B b m : ℕ) {entry l : List ℕ} where
-  -- The columns from k on have no word.
-  dead-columns : (from k : ℕ) → from ≤ 2 * k → NoKeys from 128 entry l → ((i : ℕ) → k ≤ i → Dead A B i b (m / 2 ^ i))
+-- The columns from k on are outside; `top` is the last one where something is left.
+module _ (costs : List ℕ) (A B b m top : ℕ) {entry l : List ℕ} (hi : m < 2 ^ suc top) where
+  outside-columns : (k : ℕ) → NoKeys (2 * k) (2 * top + 2) entry l → ((i : ℕ) → k ≤ i → (A < i) ⊎ (B < b))
       → RowFilled (keyCell costs A B) b m k entry l
-  dead-columns from k f n d =
+  outside-columns k n o =
       record {
         row = record {
-          free = λ i h u. n .keys (2 * i) (omega arith) (omega arith) ∙ sym (cell-dead costs A B i b true (m / 2 ^ i) (d i h));
-          after-a = λ i h u. n .keys (2 * i + 1) (omega arith) (omega arith) ∙ sym (cell-dead costs A B i b false (m / 2 ^ i) (d i h));
+          free = λ i h u left.
+              n .keys (2 * i) (omega arith) (omega (arith, live i left)) ∙ sym (cell-outside costs A B i b true (m / 2 ^ i) left (o i h));
+          after-a = λ i h u left.
+              n .keys (2 * i + 1) (omega arith) (omega (arith, live i left))
+              ∙ sym (cell-outside costs A B i b false (m / 2 ^ i) left (o i h));
         };
         same = n .same;
         later = n .later;
       }
+    where
+      live : (i : ℕ) → 1 ≤ m / 2 ^ i → i ≤ top
+      live i left =
+          let low : i < suc top = lt-of-not-le (λ (g : suc top ≤ i). omega (arith, rest-dead m (suc top) i hi g)) in
+          omega arith
 
-  -- No column has one: nothing is left, or the row is above the limit.
-  pub dead-row : NoKeys 0 128 entry l → (m ≡ 0) ⊎ (B < b) → RowFilled (keyCell costs A B) b m 0 entry l
-  dead-row n d =
-      dead-columns 0 0 (omega arith) n
-      (λ i h. ⊎-elim (λ (e : m ≡ 0). inl (rw (e, zero-div))) (λ (k : B < b). inr (inr k)) d)
+  -- The row is above the limit on triplings.
+  pub outside-row : NoKeys 0 (2 * top + 2) entry l → B < b → RowFilled (keyCell costs A B) b m 0 entry l
+  outside-row n k = outside-columns 0 n (λ i h. inr k)
 
 -- ---- the end of a row
 
@@ -173,14 +190,16 @@ pub record RowOfKeys (costs : List ℕ) (A B b m q : ℕ) (part : List ℕ) : Ty
   pub asked : RowAsked (keyCell costs A B) b m q part
   pub low : Low costs
 
--- The same of a row within the limit on triplings, where something is left.
-pub record LiveRow (costs : List ℕ) (A B b m q : ℕ) (part : List ℕ) : Type 0 where
+-- The same of a row within the limit on triplings, where the rest of the column `top` is 1.
+pub record LiveRow (costs : List ℕ) (A B b m q top : ℕ) (part : List ℕ) : Type 0 where
   pub asked : RowAsked (keyCell costs A B) b m q part
   pub low : Low costs
-  pub some : 1 ≤ m
+  pub lo : 2 ^ top ≤ m
+  pub hi : m < 2 ^ suc top
+  pub last : top < 64
   pub within : b ≤ B
 
-module _ {costs : List ℕ} {A B b m q : ℕ} {entry : List ℕ} (asked : LiveRow costs A B b m q entry) where
+module _ {costs : List ℕ} {A B b m q top : ℕ} {entry : List ℕ} (asked : LiveRow costs A B b m q top entry) where
   abbrev G′ : Meaning
   G′ = keyCell costs A B
 
@@ -190,45 +209,33 @@ module _ {costs : List ℕ} {A B b m q : ℕ} {entry : List ℕ} (asked : LiveRo
   below-from f h left first =
       record { asked = asked-still G′ (asked .asked) f; low = asked .low; last = h; left = left; filled = f .row; first = first }
 
-  -- The row ends within the limit, at the column `top`.
-  module _
-      (top : ℕ)
-      {l : List ℕ}
-      (lo : 2 ^ top ≤ m)
-      (hi : m < 2 ^ suc top)
-      (h : top < 64)
-      (a : top ≤ A)
-      (n : NoKeys (2 * top + 2) 128 entry l) where
+  -- The row ends within the limit on doublings.
+  module _ (a : top ≤ A) where
     abbrev end : ℕ
-    end = getD costs 5 0
+    end = getD costs 4 0
 
     one : (f : Bool) → end ≡ G′ top b f (m / 2 ^ top)
-    one f = rw (rest-at-top m top lo hi) (sym (cell-at-1 costs A B top b f (asked .low) a (asked .within)))
+    one f = rw (rest-at-top m top (asked .lo) (asked .hi)) (sym (cell-at-1 costs A B top b f (asked .low) a (asked .within)))
 
-    pub end-within : RowFilled G′ b m top entry (set (set l (2 * top + 1) end) (2 * top) end)
+    pub end-within : RowFilled G′ b m top entry (set (set entry (2 * top + 1) end) (2 * top) end)
     end-within =
-        column G′ b m top (suc top) entry l end end refl h (asked .asked .room) (one true) (one false)
-        (dead-columns costs A B b m (2 * top + 2) (suc top) (omega arith) n (λ i g. inl (rest-dead m (suc top) i hi g)))
+        column G′ b m top (suc top) entry entry end end refl (asked .last) (asked .asked .room) (one true) (one false)
+        (dead-columns G′ b m (suc top) entry (asked .hi))
 
-    pub within-asked : BelowAsked costs A B b m q top end (set (set l (2 * top + 1) end) (2 * top) end)
-    within-asked = below-from end-within h lo (one false)
+    pub within-asked : BelowAsked costs A B b m q top end (set (set entry (2 * top + 1) end) (2 * top) end)
+    within-asked = below-from end-within (asked .last) (asked .lo) (one false)
 
   -- It ends behind the limit: `start` is the first column outside.
-  module _
-      (top start : ℕ)
-      {l : List ℕ}
-      (lo : 2 ^ top ≤ m)
-      (h : top < 64)
-      (e : start ≡ A + 1)
-      (a : start ≤ top)
-      (n : NoKeys (2 * start) 128 entry l) where
+  module _ (start : ℕ) {l : List ℕ} (e : start ≡ A + 1) (a : start ≤ top) (n : NoKeys (2 * start) (2 * top + 2) entry l) where
     pub end-beyond : RowFilled G′ b m start entry l
-    end-beyond = dead-columns costs A B b m (2 * start) start (omega arith) n (λ i g. inr (inl (omega arith)))
+    end-beyond = outside-columns costs A B b m top (asked .hi) start n (λ i g. inl (omega arith))
 
     pub beyond-asked : BelowAsked costs A B b m q start noKey l
     beyond-asked =
-        below-from end-beyond (omega arith) (omega (arith, pow-mono a))
-        (sym (cell-dead costs A B start b false (m / 2 ^ start) (inr (inl (omega arith)))))
+        let lo : 2 ^ start ≤ m = le-trans (pow-mono a) (asked .lo) in
+        let left : 1 ≤ m / 2 ^ start = le-div-iff-mul-le (pow-pos start) .1 (omega arith) in
+        below-from end-beyond (omega (arith, asked .last)) lo
+        (sym (cell-outside costs A B start b false (m / 2 ^ start) left (inl (omega arith))))
 
 -- The column in which the rest is 1: the highest set digit of m.
 pub top-of : (m : ℕ) → 1 ≤ m → m < 2 ^ 64

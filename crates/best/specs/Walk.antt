@@ -17,8 +17,8 @@ use lib.ListN.{length, getD, set, take, drop, length-set, take-append-drop}
 use Rattle.chains.specs.Chains.{Part}
 use Rattle.chains.specs.Words.{Word, origin, right, up}
 use Rattle.chains.specs.Members.{rises}
-use Rattle.chains.specs.Keys.{inside, bestAt, leastKey}
-use Rattle.chains.specs.Bests.{lead, keyA, best-one, take-a, take-b, least-told}
+use Rattle.chains.specs.Keys.{inside, bestAt}
+use Rattle.chains.specs.Bests.{lead, keyA, keyB, best-one, least-step, take-a, take-b, least-told}
 use Rattle.grid.specs.Grid.{scratchSize, Table}
 use Rattle.grid.specs.Rests.{below-last-row, restAt, rest-origin, rest-right, rest-up, point-low}
 use Rattle.grid.specs.Fill.{read-free, read-after-a}
@@ -29,10 +29,8 @@ use Rattle.best.specs.KeyTable.{
   costsBy,
   Low,
   keyCell,
-  cell-live,
+  thirdKey,
   cell-at-most,
-  riseOf,
-  cell-step,
 }
 
 -- ---- the table and the best word
@@ -43,12 +41,9 @@ pub record Keyed (costs : List ℕ) (A B n : ℕ) (scratch : List ℕ) : Type 0 
   pub size : scratchSize ≤ length scratch
   pub table : Table (keyCell costs A B) n scratch
 
--- The best word for a reader at the point (a, b) and the rest m, if there is one, and its key.
+-- The best word for a reader at the point (a, b) and the rest m, if there is one.
 abbrev pub bestFrom : List ℕ → ℕ → ℕ → Bool → ℕ → ℕ → ℕ → Option Word
 bestFrom costs A B f a b m = bestAt (costsBy costs) A B f (record { a = a; b = b }) m
-
-abbrev pub leastFrom : List ℕ → ℕ → ℕ → Bool → ℕ → ℕ → ℕ → ℕ
-leastFrom costs A B f a b m = leastKey noKey (costsBy costs) A B f (record { a = a; b = b }) m
 
 unfoldable pub wordIn : Option Word → Word
 wordIn none = []
@@ -64,7 +59,7 @@ bestWord costs A B n = wordIn (bestFrom costs A B true 0 0 n)
 pub record KeyWalked (costs : List ℕ) (A B n a b : ℕ) (free : Bool) (rest : ℕ) : Type 0 where
   pub here : rest ≡ restAt n a b
   pub some-left : 1 ≤ rest
-  pub low : leastFrom costs A B free a b rest < noKey
+  pub low : keyCell costs A B a b free rest < noKey
   pub follows : bestFrom costs A B free a b rest ≡ some (drop (a + b) (bestWord costs A B n))
 
 -- It has passed one letter more, which is `letter`.
@@ -72,6 +67,11 @@ pub record KeyRisen (costs : List ℕ) (A B n a b letter a′ b′ : ℕ) (free 
   pub walked : KeyWalked costs A B n a′ b′ free rest
   pub passed : a′ + b′ ≡ a + b + 1
   pub spelled : take (a + b + 1) (bestWord costs A B n) ≡ take (a + b) (bestWord costs A B n) ++ (letter ∷ [])
+
+-- What the key by a rise of b asks, at the remainder `rem` by three: at 2 the number above may be any.
+pub record ThirdAsked (costs : List ℕ) (rem above : ℕ) : Type 0 where
+  pub low : Low costs
+  pub above-low : rem ≤ 1 → above ≤ noKey
 
 -- What a step of it asks: a letter after the next is left.
 pub record KeyStep (costs : List ℕ) (A B n : ℕ) (scratch : List ℕ) (a b : ℕ) (free : Bool) (rest : ℕ) : Type 0 where
@@ -119,6 +119,14 @@ rises-low f zero t = omega arith
 rises-low f (suc zero) t = omega arith
 rises-low f (suc (suc r)) t = absurd t
 
+-- Its key is no less than the one above.
+third-above : (costs : List ℕ) (f : Bool) (r above : ℕ) → T (rises f r) → above ≤ thirdKey costs f r above
+third-above costs f r above h = go (rises f r) h
+  where
+    go : (i : Bool) → T i → above ≤ cond i (letterBy costs (2 + r) + above) noKey
+    go true t = omega arith
+    go false t = absurd t
+
 letter-place : (costs : List ℕ) (r : ℕ) → r < 2 → letterBy costs r ≡ getD costs r 0
 unfolding letterBy
 letter-place costs zero h = refl
@@ -129,14 +137,13 @@ letter-place costs (suc (suc r)) h = absurd (omega arith)
 
 -- The least key of all is the first number of the table.
 pub least-of-all : {costs : List ℕ} {A B n : ℕ} {scratch : List ℕ} → Keyed costs A B n scratch → 1 ≤ n
-    → getD scratch 0 0 ≡ leastFrom costs A B true 0 0 n
+    → getD scratch 0 0 ≡ keyCell costs A B 0 0 true n
 least-of-all {costs} {A} {B} {n} {scratch} k h =
-    read-free (keyCell costs A B) n scratch 0 0 (k .table) (omega arith) (omega arith)
+    read-free (keyCell costs A B) n scratch 0 0 (k .table) (omega arith) (omega arith) (rw rest-origin h)
     ∙ ap (keyCell costs A B 0 0 true) (rest-origin n)
-    ∙ cell-live costs A B 0 0 true n h
 
 module _ {costs : List ℕ} {A B n : ℕ} {scratch letters : List ℕ} (s : KeyStart costs A B n scratch letters) where
-  least-low : leastFrom costs A B true 0 0 n < noKey
+  least-low : keyCell costs A B 0 0 true n < noKey
   least-low = omega (arith, least-of-all (s .keys) (s .some-left), s .found)
 
   chosen : bestFrom costs A B true 0 0 n ≡ some (bestWord costs A B n)
@@ -166,121 +173,124 @@ step-asked {n = n} {a = a} {b = b} k w more fits =
     let row = below-last-row (n / 3 ^ b) b (omega (arith, fits, div-mul-le-self n (3 ^ b))) (omega (arith, shr-le (n / 3 ^ b) a)) in
     record { keys = k; walked = w; more = more; low-a = omega arith; low-b = row }
 
--- `rise` is the place of the cost of a rise of b.
+-- The keys in the next column, and in the row above.
 module _
     {costs : List ℕ}
     {A B n a b : ℕ}
     {free : Bool}
-    {rest rise : ℕ}
+    {rest : ℕ}
     {scratch : List ℕ}
-    (s : KeyStep costs A B n scratch a b free rest)
-    (place : rise ≡ riseOf free (rest % 3)) where
+    (s : KeyStep costs A B n scratch a b free rest) where
   abbrev p : Part
   p = record { a = a; b = b }
 
-  -- The key in the next column, and in the row above.
   abbrev beside : ℕ
   beside = getD scratch (128 * b + 2 * a + 3) 0
 
   abbrev above : ℕ
   above = getD scratch (128 * b + 2 * a + 128) 0
 
-  beside-cell : beside ≡ keyCell costs A B (suc a) b false (rest / 2)
-  beside-cell =
+  beside-is : beside ≡ keyCell costs A B (suc a) b false (rest / 2)
+  beside-is =
+      let left : 1 ≤ restAt n (a + 1) b = rw (rest-right, ← s .walked .here) (omega (arith, s .more)) in
       ap (λ (i : ℕ). getD scratch i 0) (omega arith)
-      ∙ read-after-a (keyCell costs A B) n scratch (a + 1) b (s .keys .table) (omega (arith, s .low-a)) (omega (arith, s .low-b))
+      ∙ read-after-a (keyCell costs A B) n scratch (a + 1) b (s .keys .table) (omega (arith, s .low-a)) (omega (arith, s .low-b)) left
       ∙ rw (rest-right, add-one, ← s .walked .here)
 
-  above-cell : above ≡ keyCell costs A B a (suc b) true (rest / 3)
-  above-cell =
+  above-is : 1 ≤ rest / 3 → above ≡ keyCell costs A B a (suc b) true (rest / 3)
+  above-is h =
+      let left : 1 ≤ restAt n a (b + 1) = rw (rest-up, ← s .walked .here) h in
       ap (λ (i : ℕ). getD scratch i 0) (omega arith)
-      ∙ read-free (keyCell costs A B) n scratch a (b + 1) (s .keys .table) (omega (arith, s .low-a)) (omega (arith, s .low-b))
+      ∙ read-free (keyCell costs A B) n scratch a (b + 1) (s .keys .table) (omega (arith, s .low-a)) (omega (arith, s .low-b)) left
       ∙ rw (rest-up, add-one, ← s .walked .here)
 
-  beside-is : beside ≡ leastFrom costs A B false (suc a) b (rest / 2)
-  beside-is = beside-cell ∙ cell-live costs A B (suc a) b false (rest / 2) (omega (arith, s .more))
+  -- At a remainder of 0 or 1 something is left above.
+  some-above : rest % 3 ≤ 1 → 1 ≤ rest / 3
+  some-above h = omega (arith, s .more)
 
-  cells-low : (beside ≤ noKey) × (above ≤ noKey)
-  cells-low = (
-    omega (arith, beside-cell, cell-at-most costs A B (suc a) b false (rest / 2)),
-    omega (arith, above-cell, cell-at-most costs A B a (suc b) true (rest / 3)),
-  )
+  pub third-asked : ThirdAsked costs (rest % 3) above
+  third-asked =
+      record {
+        low = s .keys .low;
+        above-low = λ h. omega (arith, above-is (some-above h), cell-at-most costs A B a (suc b) true (rest / 3));
+      }
 
-  -- The keys by a rise of a and by a rise of b.
+  -- The key by a rise of a.
   abbrev half : ℕ
   half = beside + getD costs (rest % 2) 0
 
-  abbrev third : ℕ
-  third = above + getD costs rise 0
-
-  pub step-fits : (half ≤ 2 * noKey) × (third ≤ 2 * noKey)
-  step-fits = omega (arith, cells-low, s .keys .low .each (rest % 2), s .keys .low .each rise)
+  pub half-fits : half ≤ 2 * noKey
+  half-fits = omega (arith, beside-is, cell-at-most costs A B (suc a) b false (rest / 2), s .keys .low .each (rest % 2))
 
   half-is : half ≡ keyA noKey (costsBy costs) A B p rest
   unfolding right
   half-is = omega (arith, beside-is, letter-place costs (rest % 2) (omega arith))
 
-  -- The smaller one is the least key.
-  least-is : leastFrom costs A B free a b rest ≡ min half third
-  least-is =
-      let e = cell-step costs A B a b free rest (s .keys .low) (s .more) in
-      let e′ : leastFrom costs A B free a b rest ≡ min noKey (min half third)
-      = sym (cell-live costs A B a b free rest (omega (arith, s .more))) ∙ e ∙ rw (beside-cell, above-cell, place) in
-      omega (arith, s .walked .low)
+  third-is : thirdKey costs free (rest % 3) above ≡ keyB noKey (costsBy costs) A B free p rest
+  unfolding up rises
+  third-is = go (rest % 3) refl
+    where
+      go : (r : ℕ) → rest % 3 ≡ r → thirdKey costs free r above ≡ thirdKey costs free r (keyCell costs A B a (suc b) true (rest / 3))
+      go zero e = rw (above-is (some-above (omega arith)))
+      go (suc zero) e = rw (above-is (some-above (omega arith)))
+      go (suc (suc r)) e = refl
 
-  -- The letter l leads to the point (a′, b′).
-  risen : (l : ℕ) (g : Bool) (a′ b′ m : ℕ)
-      → lead l (bestFrom costs A B g a′ b′ m) ≡ some (drop (a + b) (bestWord costs A B n))
-      → a′ + b′ ≡ a + b + 1
-      → m ≡ restAt n a′ b′
-      → 1 ≤ m
-      → leastFrom costs A B g a′ b′ m < noKey
-      → KeyRisen costs A B n a b l a′ b′ g m
-  risen l g a′ b′ m e d here h low =
-      let v = lead-word l (bestFrom costs A B g a′ b′ m) (drop (a + b) (bestWord costs A B n)) e in
-      record {
-        walked = record {
-          here = here;
-          some-left = h;
-          low = low;
-          follows = rw (d, drop-more (bestWord costs A B n) (v .0) (a + b) l (v .2)) (v .1);
-        };
-        passed = d;
-        spelled = take-more (bestWord costs A B n) (v .0) (a + b) l (v .2);
-      }
+  -- `third` is the key by a rise of b. The smaller one is the least key.
+  module _ {third : ℕ} (told : third ≡ thirdKey costs free (rest % 3) above) where
+    least-is : keyCell costs A B a b free rest ≡ min half third
+    least-is = let e = least-step noKey (costsBy costs) A B free p rest (s .more) in omega (arith, s .walked .low, half-is, third-is)
 
-  -- a rises where its key is no larger.
-  pub step-a : half ≤ third → KeyRisen costs A B n a b (rest % 2) (a + 1) b false (rest / 2)
-  unfolding right
-  step-a h =
-      let w = s .walked in
-      let taken = take-a noKey (costsBy costs) A B free p rest (s .more) (w .low) (omega (arith, half-is, least-is)) in
-      risen (rest % 2) false (a + 1) b (rest / 2) (rw add-one (sym taken ∙ w .follows)) (omega arith) (rw (rest-right, w .here))
-      (omega (arith, s .more))
-      (rw add-one (omega (arith, beside-is, least-is, w .low)))
+    -- The letter l leads to the point (a′, b′).
+    risen : (l : ℕ) (g : Bool) (a′ b′ m : ℕ)
+        → lead l (bestFrom costs A B g a′ b′ m) ≡ some (drop (a + b) (bestWord costs A B n))
+        → a′ + b′ ≡ a + b + 1
+        → m ≡ restAt n a′ b′
+        → 1 ≤ m
+        → keyCell costs A B a′ b′ g m < noKey
+        → KeyRisen costs A B n a b l a′ b′ g m
+    risen l g a′ b′ m e d here h low =
+        let v = lead-word l (bestFrom costs A B g a′ b′ m) (drop (a + b) (bestWord costs A B n)) e in
+        record {
+          walked = record {
+            here = here;
+            some-left = h;
+            low = low;
+            follows = rw (d, drop-more (bestWord costs A B n) (v .0) (a + b) l (v .2)) (v .1);
+          };
+          passed = d;
+          spelled = take-more (bestWord costs A B n) (v .0) (a + b) l (v .2);
+        }
 
-  -- Else b rises.
-  module _ (h : third < half) where
-    raised : T (rises free (rest % 3))
-        × (lead (2 + rest % 3) (bestFrom costs A B true a (suc b) (rest / 3)) ≡ some (drop (a + b) (bestWord costs A B n)))
-    unfolding up
-    raised =
+    -- a rises where its key is no larger.
+    pub step-a : half ≤ third → KeyRisen costs A B n a b (rest % 2) (a + 1) b false (rest / 2)
+    unfolding right
+    step-a h =
         let w = s .walked in
-        let taken = take-b noKey (costsBy costs) A B free p rest (s .more) (w .low) (λ e. omega (arith, half-is, least-is)) in
-        cond-word (rises free (rest % 3)) (lead (2 + rest % 3) (bestFrom costs A B true a (suc b) (rest / 3)))
-        (drop (a + b) (bestWord costs A B n))
-        (sym taken ∙ w .follows)
+        let taken = take-a noKey (costsBy costs) A B free p rest (s .more) (w .low) (omega (arith, half-is, least-is)) in
+        risen (rest % 2) false (a + 1) b (rest / 2) (rw add-one (sym taken ∙ w .follows)) (omega arith) (rw (rest-right, w .here))
+        (omega (arith, s .more))
+        (rw add-one (omega (arith, beside-is, least-is, w .low)))
 
-    third-left : 1 ≤ rest / 3
-    third-left = omega (arith, s .more, rises-low free (rest % 3) (raised .0))
+    -- Else b rises.
+    module _ (h : third < half) where
+      raised : T (rises free (rest % 3))
+          × (lead (2 + rest % 3) (bestFrom costs A B true a (suc b) (rest / 3)) ≡ some (drop (a + b) (bestWord costs A B n)))
+      unfolding up
+      raised =
+          let w = s .walked in
+          let taken = take-b noKey (costsBy costs) A B free p rest (s .more) (w .low) (λ e. omega (arith, half-is, least-is)) in
+          cond-word (rises free (rest % 3)) (lead (2 + rest % 3) (bestFrom costs A B true a (suc b) (rest / 3)))
+          (drop (a + b) (bestWord costs A B n))
+          (sym taken ∙ w .follows)
 
-    above-is : above ≡ leastFrom costs A B true a (suc b) (rest / 3)
-    above-is = above-cell ∙ cell-live costs A B a (suc b) true (rest / 3) third-left
+      third-left : 1 ≤ rest / 3
+      third-left = some-above (rises-low free (rest % 3) (raised .0))
 
-    pub step-b : KeyRisen costs A B n a b (2 + rest % 3) a (b + 1) true (rest / 3)
-    step-b =
-        risen (2 + rest % 3) true a (b + 1) (rest / 3) (rw add-one (raised .1)) (omega arith) (rw (rest-up, s .walked .here)) third-left
-        (rw add-one (omega (arith, above-is, least-is, s .walked .low)))
+      pub step-b : KeyRisen costs A B n a b (2 + rest % 3) a (b + 1) true (rest / 3)
+      step-b =
+          let third-more = third-above costs free (rest % 3) above (raised .0) in
+          risen (2 + rest % 3) true a (b + 1) (rest / 3) (rw add-one (raised .1)) (omega arith) (rw (rest-up, s .walked .here)) third-left
+          (rw add-one (omega (arith, above-is third-left, least-is, s .walked .low)))
 
 -- ---- writing
 

@@ -18,10 +18,10 @@ ghost use Rattle.best.specs.KeyRows.{NoKeys, BelowAsked, LiveRow, RowOfK
 pub const PART: u64 = 1 << 32;
 
 // The key of no word.
-const NONE: u64 = 1 << 40;
+pub const NONE: u64 = 1 << 40;
 
-// What the letters 0 to 3 cost where they are not the last, what a rise costs that may not be made, and what the last point costs.
-pub fn letter_costs(d: u16, t: u16, s: u16) -> [u64; 6]
+// What the letters 0 to 3 cost where they are not the last, and what the last point costs.
+pub fn letter_costs(d: u16, t: u16, s: u16) -> [u64; 5]
     ensures { λ r. ⌜ r ≡ letterCosts (pricesOf d t s) ⌝ }
 {
     let addition = PART + s as u64;
@@ -30,7 +30,6 @@ pub fn letter_costs(d: u16, t: u16, s: u16) -> [u64; 6]
         addition + d as u64,
         t as u64,
         addition + t as u64,
-        NONE,
         PART,
     ]
 }
@@ -48,9 +47,9 @@ fn picked(bits: u64, x: u64, y: u64) -> u64
     if bits % 2 == 1 { x } else { y }
 }
 
-// No word from `from` up to but without `end`.
+// No word from `from` up to but without `end`, in a row.
 fn fill_none(part: &mut [u64], from: usize, end: usize)
-    requires { ⌜ (from ≤ end) × (end ≤ length (now part)) ⌝ }
+    requires { ⌜ (from ≤ end) × (end ≤ 128) × (128 ≤ length (now part)) ⌝ }
     ensures { λ _. ⌜ NoKeys from end (now (part .entry)) (now (part .exit)) ⌝ }
 {
     let mut i = from;
@@ -63,9 +62,10 @@ fn fill_none(part: &mut [u64], from: usize, end: usize)
 // The columns below `start`, where those from `start` on are filled and `right` is the second number of column `start`.
 //
 // Bit a of `ones` is 1 where the remainder by three of column a's rest is 1, bit a of `zeros` where it is 0 (grid, Masks). At 1
-// both readers let b rise, by the letter 3; at 0 the first reader alone, by the letter 2; at 2 none. What a rise of b gives is cut
-// at `NONE`, so both numbers are, and no column waits for a cut of the one right of it. The costs are read once, before the loop:
-// they stay in registers, and each choice is compiled to a conditional move.
+// both readers let b rise, by the letter 3; at 0 the first reader alone, by the letter 2; at 2 none. Where nothing is left above, the
+// remainder is 2: what stands there is free, and is not chosen. What a rise of b gives is cut at `NONE`, so both numbers are, and no
+// column waits for a cut of the one right of it. The costs are read once, before the loop: they stay in registers, and each choice is
+// compiled to a conditional move.
 fn fill_below(
     part: &mut [u64],
     m: u64,
@@ -73,7 +73,7 @@ fn fill_below(
     b: usize,
     start: usize,
     right: u64,
-    costs: &[u64; 6],
+    costs: &[u64; 5],
     doublings: usize,
     triplings: usize,
 )
@@ -91,48 +91,48 @@ fn fill_below(
     while 0 < a {
         a -= 1;
         let above = part[128 + 2 * a];
-        let third = least(NONE, picked(ones >> a, above + part_b_rises, NONE));
+        let third = least(NONE, picked(ones >> a, above, NONE) + part_b_rises);
         after = least(after + picked(m >> a, part_a_rises, a_rises), third);
         part[2 * a + 1] = after;
-        part[2 * a] = least(after, picked(zeros >> a, above + b_rises, NONE));
+        part[2 * a] = least(after, picked(zeros >> a, above, NONE) + b_rises);
     }
 }
 
-// A row in which something is left, within the limit on triplings. In the column `top` the rest is 1.
+// A row in which something is left, within the limit on triplings. In the column `top` the rest is 1; behind it nothing is left, and
+// nothing is written.
 fn fill_live(
     part: &mut [u64],
     m: u64,
     q: u64,
     b: usize,
-    costs: &[u64; 6],
+    top: usize,
+    costs: &[u64; 5],
     doublings: usize,
     triplings: usize,
 )
-    requires { ⌜ LiveRow (now costs) doublings triplings b m q (now part) ⌝ }
+    requires { ⌜ LiveRow (now costs) doublings triplings b m q top (now part) ⌝ }
     ensures { λ _. ⌜ RowFilled (keyCell (now (costs .entry)) doublings triplings) b m 0 (now (part .entry)) (now (part .exit)) ⌝ }
 {
-    let top = 63 - u64::leading_zeros(m) as usize;
     if top <= doublings {
-        let end = costs[5];
-        fill_none(part, 2 * top + 2, 128);
+        let end = costs[4];
         part[2 * top + 1] = end;
         part[2 * top] = end;
         fill_below(part, m, q, b, top, end, costs, doublings, triplings);
     } else {
         let start = doublings + 1;
-        fill_none(part, 2 * start, 128);
+        fill_none(part, 2 * start, 2 * top + 2);
         fill_below(part, m, q, b, start, NONE, costs, doublings, triplings);
     }
 }
 
-// The row step: one row, in the part that begins at it, the row above at 128. Where nothing is left, or b is above its limit, no
-// cell has a word.
+// The row step: one row, in the part that begins at it, the row above at 128. Only the cells where something is left are written; where
+// b is above its limit, none of them has a word.
 fn fill_row(
     part: &mut [u64],
     m: u64,
     q: u64,
     b: usize,
-    costs: &[u64; 6],
+    costs: &[u64; 5],
     doublings: usize,
     triplings: usize,
 )
@@ -140,14 +140,14 @@ fn fill_row(
     ensures { λ _. ⌜ RowFilled (keyCell (now (costs .entry)) doublings triplings) b m 0 (now (part .entry)) (now (part .exit)) ⌝ }
 {
     if m == 0 {
-        fill_none(part, 0, 128);
         return;
     }
+    let top = 63 - u64::leading_zeros(m) as usize;
     if b > triplings {
-        fill_none(part, 0, 128);
+        fill_none(part, 0, 2 * top + 2);
         return;
     }
-    fill_live(part, m, q, b, costs, doublings, triplings);
+    fill_live(part, m, q, b, top, costs, doublings, triplings);
 }
 
 // The rows from b on, where m is the rest of row b's first column: the last one first.
@@ -155,7 +155,7 @@ pub fn fill_rows(
     scratch: &mut [u64],
     b: usize,
     m: u64,
-    costs: &[u64; 6],
+    costs: &[u64; 5],
     doublings: usize,
     triplings: usize,
 )

@@ -1,9 +1,9 @@
 // The walk along a table of keys that writes the best word. It goes along the letters of the word, from the point (0, 0) up; the
 // next letter's index is a + b.
+use super::keys;
 ghost use mathlib.Core.Path.{_≡_};
-ghost use Prim.Native.Nat.{_≤_};
-ghost use Rattle.best.specs.KeyTable.{riseOf};
-ghost use Rattle.best.specs.Walk.{KeyStep, KeyRisen, KeyStart, BestWritten};
+ghost use Rattle.best.specs.KeyTable.{thirdKey};
+ghost use Rattle.best.specs.Walk.{ThirdAsked, KeyStep, KeyRisen, KeyStart, BestWritten};
 
 // A point of the walk: which reader goes on there, the rest, and the letter passed last.
 struct Walk {
@@ -14,12 +14,21 @@ struct Walk {
     letter: u8,
 }
 
-// The place of the cost of a rise of b, at a remainder by three.
-fn rise_of(free: bool, rem: usize) -> usize
-    requires { ⌜ rem ≤ 2 ⌝ }
-    ensures { λ r. ⌜ (r ≡ riseOf free rem) × (r ≤ 4) ⌝ }
+// The key by a rise of b, at a remainder by three, where `above` stands in the cell above. At 2 no reader lets b rise, and what stands
+// above is free where nothing is left there.
+fn third_key(free: bool, rem: u64, above: u64, costs: &[u64; 5]) -> u64
+    requires { ⌜ ThirdAsked (now costs) rem above ⌝ }
+    ensures { λ r. ⌜ r ≡ thirdKey (now (costs .entry)) free rem above ⌝ }
 {
-    if free { 2 + rem } else { 4 - rem % 2 }
+    if rem == 1 {
+        return costs[3] + above;
+    }
+    if rem == 0 {
+        if free {
+            return costs[2] + above;
+        }
+    }
+    keys::NONE
 }
 
 // One letter of the walk: a rises where its key is no larger than that of b. So of two words with the same key the earlier one is
@@ -27,7 +36,7 @@ fn rise_of(free: bool, rem: usize) -> usize
 fn walk_step(
     n: u64,
     scratch: &[u64],
-    costs: &[u64; 6],
+    costs: &[u64; 5],
     doublings: usize,
     triplings: usize,
     w: Walk,
@@ -39,9 +48,8 @@ fn walk_step(
     let b = w.b;
     let rest = w.rest;
     let cell = 128 * b + 2 * a;
-    let rise = rise_of(w.free, (rest % 3) as usize);
     let half = scratch[cell + 3] + costs[(rest % 2) as usize];
-    let third = scratch[cell + 128] + costs[rise];
+    let third = third_key(w.free, rest % 3, scratch[cell + 128], costs);
     if half <= third {
         return Walk {
             a: a + 1,
@@ -64,7 +72,7 @@ fn walk_step(
 pub fn write_best(
     n: u64,
     scratch: &[u64],
-    costs: &[u64; 6],
+    costs: &[u64; 5],
     doublings: usize,
     triplings: usize,
     letters: &mut [u8],

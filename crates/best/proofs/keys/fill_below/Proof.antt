@@ -4,7 +4,7 @@ use Prim.Native.Nat.{_-_, _/_, _%_, _^_}
 use native.Mathlib.Omega.{arith}
 use borrow.Author.Needs.{needs}
 use lib.ListN.{length-set}
-use Rattle.best.specs.KeyRows.{Below, below-none, below-room, above-fits, after-fits, below-more}
+use Rattle.best.specs.KeyRows.{Below, below-none, below-room, ones-fits, zeros-fits, after-fits, below-more}
 use Rattle.best.proofs.keys.fill_below.Statement.{statement}
 use Rattle.best.proofs.keys.fill_below.Tie as tie
 
@@ -21,24 +21,24 @@ slice-read-above c =
     let s = l .before .before .before .before .before .before in
     omega (arith, below-room (s .pre) (l .loop .inv) (l .loop .a - 1) (omega arith))
 
-add-picked : tie.Need-add-picked Inv-loop μ-loop
-add-picked c =
-    let l = c .before .before in
-    let s = l .before .before .before .before .before .before in
-    omega (arith, above-fits (s .pre) (l .loop .inv) (l .loop .a - 1) (omega arith) 3)
-
 add-least : tie.Need-add-least Inv-loop μ-loop
 add-least c =
+    let l = c .before .before .before in
+    let s = l .before .before .before .before .before .before in
+    omega (arith, c .picked .ensures, ones-fits (s .pre) (l .loop .inv) (l .loop .a - 1) (omega arith))
+
+add-least-2 : tie.Need-add-least-2 Inv-loop μ-loop
+add-least-2 c =
     let l = c .before .before .before .before .before in
     let s = l .before .before .before .before .before .before in
     let fits = after-fits (s .pre) (l .loop .inv) (l .loop .a - 1) (omega arith) (s .args .m / 2 ^ (l .loop .a - 1) % 2) in
     omega (arith, c .picked2 .ensures)
 
-add-picked-2 : tie.Need-add-picked-2 Inv-loop μ-loop
-add-picked-2 c =
-    let l = c .before .before .before .before .before .before in
+add-least-3 : tie.Need-add-least-3 Inv-loop μ-loop
+add-least-3 c =
+    let l = c .before .before .before .before .before .before .before in
     let s = l .before .before .before .before .before .before in
-    omega (arith, above-fits (s .pre) (l .loop .inv) (l .loop .a - 1) (omega arith) 2)
+    omega (arith, c .picked3 .ensures, zeros-fits (s .pre) (l .loop .inv) (l .loop .a - 1) (omega arith) (s .fits .m .fits))
 
 loop-again : tie.Need-loop-again Inv-loop μ-loop
 loop-again c =
@@ -73,20 +73,20 @@ fill-below-spec =
     (λ c. search needs)
     slice-read-above
     (λ c. search needs)
-    add-picked
-    (λ c κs. search needs)
-    (λ c κs. search needs)
-    (λ c. search needs)
     (λ c κs. search needs)
     add-least
     (λ c κs. search needs)
     (λ c. search needs)
-    (λ c. search needs)
-    (λ c. search needs)
-    (λ c. search needs)
-    (λ c. search needs)
-    add-picked-2
     (λ c κs. search needs)
+    add-least-2
+    (λ c κs. search needs)
+    (λ c. search needs)
+    (λ c. search needs)
+    (λ c. search needs)
+    (λ c. search needs)
+    (λ c. search needs)
+    (λ c κs. search needs)
+    add-least-3
     (λ c κs. search needs)
     (λ c. search needs)
     (λ c. search needs)

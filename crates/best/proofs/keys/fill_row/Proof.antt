@@ -1,26 +1,47 @@
--- `fill_row` fills its row: with no word where nothing is left or the row is above the limit.
-use mathlib.Core.Logic.{inl, inr}
+-- `fill_row` fills its row: where nothing is left nothing is to be filled, and above the limit there is no word.
 use native.Mathlib.Omega.{arith}
 use borrow.Author.Needs.{needs}
-use Rattle.best.specs.KeyRows.{dead-row}
+use Rattle.grid.specs.Fill.{dead-columns}
+use Rattle.best.specs.KeyRows.{outside-row, top-of}
 use Rattle.best.proofs.keys.fill_row.Statement.{statement}
 use Rattle.best.proofs.keys.fill_row.Tie as tie
+
+cast-top : tie.Need-cast-top
+cast-top c =
+    let s = c .before .before in
+    omega (arith, top-of (s .args .m) (omega arith) (s .fits .m .fits))
+
+sub-top : tie.Need-sub-top
+sub-top c =
+    let s = c .before .before in
+    top-of (s .args .m) (omega arith) (s .fits .m .fits) .0
+
+returns-2 : tie.Need-returns-2
+returns-2 c =
+    let n = c .before .before in
+    let o = n .before .before in
+    let s = o .before .before .before in
+    let t = top-of (s .args .m) (omega arith) (s .fits .m .fits) in
+    outside-row _ _ _ _ _ _ (t .2) (n .fill-none .ensures) (o .if2 .taken)
 
 fill-live-requires : tie.Need-fill-live-requires
 fill-live-requires c κs =
     let s = c .before .before .before .before in
-    record { asked = s .pre .asked; low = s .pre .low; some = omega arith; within = omega arith }
+    let t = top-of (s .args .m) (omega arith) (s .fits .m .fits) in
+    record { asked = s .pre .asked; low = s .pre .low; lo = t .1; hi = t .2; last = omega arith; within = omega arith }
 
 pub fill-row-spec : {M : Type 1} → statement M
 fill-row-spec =
     tie.close
     (tie.spec
+    (λ c. dead-columns _ _ _ 0 _ (omega arith))
+    cast-top
+    sub-top
+    (λ c. search needs)
+    (λ c. search needs)
     (λ c κs. search needs)
     (λ c. search needs)
-    (λ c. dead-row _ _ _ _ _ (c .before .before .fill-none .ensures) (inl (c .before .before .before .before .if1 .taken)))
-    (λ c κs. search needs)
-    (λ c. search needs)
-    (λ c. dead-row _ _ _ _ _ (c .before .before .fill-none2 .ensures) (inr (c .before .before .before .before .if2 .taken)))
+    returns-2
     fill-live-requires
     (λ c. search needs)
     (λ c. search needs))

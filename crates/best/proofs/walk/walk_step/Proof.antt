@@ -1,29 +1,25 @@
 -- `walk_step` passes one letter of the best word: a rises where its key is no larger, else b.
-use Rattle.best.specs.Walk.{step-fits, step-a, step-b}
+use Rattle.best.specs.Walk.{third-asked, half-fits, step-a, step-b}
 use native.Mathlib.Omega.{arith}
 use borrow.Author.Needs.{needs}
 use Rattle.best.proofs.walk.walk_step.Statement.{statement}
 use Rattle.best.proofs.walk.walk_step.Tie as tie
 
 add-half-2 : tie.Need-add-half-2
-add-half-2 c =
-    let r = c .before .before in
-    omega (arith, step-fits (r .before .before .pre) (r .rise-of .ensures .0))
+add-half-2 c = omega (arith, half-fits (c .before .before .before .pre))
 
-add-third-2 : tie.Need-add-third-2
-add-third-2 c =
-    let r = c .before .before .before .before in
-    omega (arith, step-fits (r .before .before .pre) (r .rise-of .ensures .0))
+third-key-requires : tie.Need-third-key-requires
+third-key-requires c κs = third-asked (c .before .before .before .before .pre)
 
 returns : tie.Need-returns
 returns c =
-    let r = c .before .before .before .before .before in
-    step-a (r .before .before .pre) (r .rise-of .ensures .0) (c .if1 .taken)
+    let t = c .before in
+    step-a (t .before .before .before .before .before .pre) (t .third-key .ensures) (c .if1 .taken)
 
 returns-2 : tie.Need-returns-2
 returns-2 c =
-    let r = c .before .before .before .before .before in
-    step-b (r .before .before .pre) (r .rise-of .ensures .0) (c .if1 .left)
+    let t = c .before in
+    step-b (t .before .before .before .before .before .pre) (t .third-key .ensures) (c .if1 .left)
 
 pub walk-step-spec : {M : Type 1} → statement M
 walk-step-spec =
@@ -32,7 +28,6 @@ walk-step-spec =
     (λ c. search needs)
     (λ c. search needs)
     (λ c. search needs)
-    (λ c κs. search needs)
     (λ c. search needs)
     (λ c. search needs)
     (λ c. search needs)
@@ -42,9 +37,7 @@ walk-step-spec =
     (λ c. search needs)
     (λ c. search needs)
     (λ c. search needs)
-    (λ c. search needs)
-    (λ c. search needs)
-    add-third-2
+    third-key-requires
     (λ c. search needs)
     (λ c. search needs)
     returns
