@@ -42,7 +42,8 @@ pub record NoKeys (from end : ℕ) (entry l : List ℕ) : Type 0 where
 pub none-yet : (from : ℕ) (l : List ℕ) → NoKeys from from l l
 none-yet from l = record { keys = λ i h k. absurd (omega arith); same = refl; later = refl }
 
-pub none-more : {from i : ℕ} {entry l : List ℕ} → NoKeys from i entry l → i < 128 → i < length l → NoKeys from (i + 1) entry (set l i noKey)
+pub none-more : {from i : ℕ} {entry l : List ℕ} → NoKeys from i entry l → i < 128 → i < length l
+    → NoKeys from (i + 1) entry (set l i noKey)
 none-more {from} {i} {entry} {l} n h k =
     record {
       keys = λ j p q.
@@ -104,51 +105,38 @@ module _ {costs : List ℕ} {A B b m q start right : ℕ} {entry : List ℕ} (as
     after-is : after ≡ G (suc j) b false (m / 2 ^ j / 2)
     after-is = s .number ∙ rw (e, half-of-rest)
 
-    -- No sum wraps: where a bit chooses the number above, something is left there.
-    above-low : m / 2 ^ j % 3 ≤ 1 → above ≤ noKey
-    above-low h =
-        let three : 3 ≤ m / 2 ^ j = omega (arith, two-left) in
-        omega (arith, above-is three, cell-at-most costs A B j (suc b) true (m / 2 ^ j / 3))
+    -- A sum with the number above wraps only where nothing is left there,
+    sum-is : (l : ℕ) → 3 ≤ m / 2 ^ j → (above + getD costs l 0) % 2 ^ 64 ≡ G j (suc b) true (m / 2 ^ j / 3) + getD costs l 0
+    sum-is l three =
+        omega (arith, above-is three, cell-at-most costs A B j (suc b) true (m / 2 ^ j / 3), asked .low .each l)
 
-    pub ones-fits : pick (onesOf m q / 2 ^ j % 2) above noKey + getD costs 3 0 ≤ 2 * noKey
-    ones-fits =
-        rw (asked .asked .third, ones-bit m j)
-        (omega (arith, pick-low (m / 2 ^ j % 3 % 2) above noKey noKey (λ h. above-low (omega arith)) (omega arith), asked .low .each 3))
-
-    pub zeros-fits : m < 2 ^ 64 → pick (zerosOf m q / 2 ^ j % 2) above noKey + getD costs 2 0 ≤ 2 * noKey
-    zeros-fits fits =
-        rw (asked .asked .third, zeros-bit m j fits (omega (arith, s .within, asked .last)))
-        (omega (
-          arith,
-          pick-low ((2 - m / 2 ^ j % 3) / 2) above noKey noKey (λ h. above-low (omega arith)) (omega arith),
-          asked .low .each 2,
-        ))
-
+    -- and none with the number of the column right of it.
     pub after-fits : (bit : ℕ) → after + pick bit (getD costs 1 0) (getD costs 0 0) ≤ 2 * noKey
     after-fits bit =
         omega (
           arith,
           after-is,
           cell-at-most costs A B (suc j) b false (m / 2 ^ j / 2),
-          pick-low bit _ _ noKey (λ h. asked .low .each 1) (asked .low .each 0),
+          pick-low bit _ _ noKey (asked .low .each 1) (asked .low .each 0),
         )
 
     -- The numbers x and y of column j, chosen by bits of the masks, are stored.
     pub below-more : {x y : ℕ} → m < 2 ^ 64
         → y
         ≡ min (after + pick (m / 2 ^ j % 2) (getD costs 1 0) (getD costs 0 0))
-        (min noKey (pick (onesOf m q / 2 ^ j % 2) above noKey + getD costs 3 0))
-        → x ≡ min y (pick (zerosOf m q / 2 ^ j % 2) above noKey + getD costs 2 0)
+        (min noKey (pick (onesOf m q / 2 ^ j % 2) ((above + getD costs 3 0) % 2 ^ 64) noKey))
+        → x ≡ min y (pick (zerosOf m q / 2 ^ j % 2) ((above + getD costs 2 0) % 2 ^ 64) noKey)
         → Below costs A B b m start entry (set (set part (2 * j + 1) y) (2 * j) x) j y
     below-more {x} {y} fits ey ex =
         let last : j < 64 = omega (arith, s .within, asked .last) in
         let y-is : y ≡ G j b false (m / 2 ^ j)
         = ey
-        ∙ rw (after-is, asked .asked .third, ones-bit m j) (sym (after-by-bits costs A B j b (m / 2 ^ j) above two-left above-is)) in
+        ∙ rw (after-is, asked .asked .third, ones-bit m j)
+        (sym (after-by-bits costs A B j b (m / 2 ^ j) two-left _ (sum-is 3))) in
         let x-is : x ≡ G j b true (m / 2 ^ j)
         = ex
         ∙ rw (y-is, asked .asked .third, zeros-bit m j fits last)
-        (sym (free-by-bits costs A B j b (m / 2 ^ j) above two-left above-is)) in
+        (sym (free-by-bits costs A B j b (m / 2 ^ j) two-left _ (sum-is 2))) in
         record {
           filled = column G b m j k entry part x y e (omega arith) (asked .asked .room) x-is y-is (s .filled);
           number = y-is;
@@ -165,7 +153,8 @@ module _ (costs : List ℕ) (A B b m top : ℕ) {entry l : List ℕ} (hi : m < 2
       record {
         row = record {
           free = λ i h u left.
-              n .keys (2 * i) (omega arith) (omega (arith, live i left)) ∙ sym (cell-outside costs A B i b true (m / 2 ^ i) left (o i h));
+              n .keys (2 * i) (omega arith) (omega (arith, live i left))
+              ∙ sym (cell-outside costs A B i b true (m / 2 ^ i) left (o i h));
           after-a = λ i h u left.
               n .keys (2 * i + 1) (omega arith) (omega (arith, live i left))
               ∙ sym (cell-outside costs A B i b false (m / 2 ^ i) left (o i h));

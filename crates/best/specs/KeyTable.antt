@@ -122,60 +122,55 @@ unfoldable pub pick : ℕ → ℕ → ℕ → ℕ
 pick zero x y = y
 pick (suc bit) x y = x
 
-pub pick-low : (bit x y k : ℕ) → (1 ≤ bit → x ≤ k) → y ≤ k → pick bit x y ≤ k
+pub pick-low : (bit x y k : ℕ) → x ≤ k → y ≤ k → pick bit x y ≤ k
 unfolding pick
 pick-low zero x y k h l = l
-pick-low (suc bit) x y k h l = h (omega arith)
+pick-low (suc bit) x y k h l = h
 
--- Both numbers of a cell from a rest of 2 on, where h is the second of the cell right of it and u the first of the cell above it,
--- wherever something is left there. The bits are those of the rest and of the masks of its row (grid, Masks).
-module _
-    (costs : List ℕ)
-    (A B a b m u : ℕ)
-    (two : 2 ≤ m)
-    (u-is : 3 ≤ m → u ≡ keyCell costs A B a (suc b) true (m / 3)) where
+-- Both numbers of a cell from a rest of 2 on, where h is the second of the cell right of it and u the first of the cell above it.
+-- The bits are those of the rest and of the masks of its row (grid, Masks). A sum x with u is chosen only where something is left
+-- above; elsewhere it may be any number.
+module _ (costs : List ℕ) (A B a b m : ℕ) (two : 2 ≤ m) where
   abbrev h : ℕ
   h = keyCell costs A B (suc a) b false (m / 2)
+
+  abbrev u : ℕ
+  u = keyCell costs A B a (suc b) true (m / 3)
 
   abbrev beside : ℕ
   beside = h + pick (m % 2) (getD costs 1 0) (getD costs 0 0)
 
-  -- The step, by a rise of a and by a rise of b.
+  -- The least of both steps, by a rise of a and by a rise of b.
   step : (f : Bool) → keyCell costs A B a b f m ≡ min noKey (min beside (thirdKey costs f (m % 3) u))
-  unfolding right up letterBy pick rises
-  step f =
-      least-step noKey (costsBy costs) A B f (record { a = a; b = b }) m two ∙ rw (half (m % 2) (omega arith), third (m % 3) refl)
+  unfolding right up letterBy pick
+  step f = least-step noKey (costsBy costs) A B f (record { a = a; b = b }) m two ∙ rw (half (m % 2) (omega arith))
     where
       half : (r : ℕ) → r < 2 → letterBy costs r + h ≡ h + pick r (getD costs 1 0) (getD costs 0 0)
       half zero l = omega arith
       half (suc zero) l = omega arith
       half (suc (suc r)) l = absurd (omega arith)
 
-      third : (r : ℕ) → m % 3 ≡ r → thirdKey costs f r (keyCell costs A B a (suc b) true (m / 3)) ≡ thirdKey costs f r u
-      third zero e = rw (u-is (omega arith))
-      third (suc zero) e = rw (u-is (omega arith))
-      third (suc (suc r)) e = refl
-
-  pub after-by-bits : keyCell costs A B a b false m ≡ min beside (min noKey (pick (m % 3 % 2) u noKey + getD costs 3 0))
+  pub after-by-bits : (x : ℕ) → (3 ≤ m → x ≡ u + getD costs 3 0)
+      → keyCell costs A B a b false m ≡ min beside (min noKey (pick (m % 3 % 2) x noKey))
   unfolding pick rises letterBy
-  after-by-bits = step false ∙ go (m % 3) (omega arith)
+  after-by-bits x is = step false ∙ go (m % 3) refl
     where
-      go : (r : ℕ) → r < 3
-          → min noKey (min beside (thirdKey costs false r u)) ≡ min beside (min noKey (pick (r % 2) u noKey + getD costs 3 0))
-      go zero l = omega arith
-      go (suc zero) l = omega arith
-      go (suc (suc zero)) l = omega arith
-      go (suc (suc (suc r))) l = absurd (omega arith)
+      go : (r : ℕ) → m % 3 ≡ r
+          → min noKey (min beside (thirdKey costs false r u)) ≡ min beside (min noKey (pick (r % 2) x noKey))
+      go zero e = omega arith
+      go (suc zero) e = omega (arith, is (omega arith))
+      go (suc (suc zero)) e = omega arith
+      go (suc (suc (suc r))) e = absurd (omega arith)
 
-  pub free-by-bits : keyCell costs A B a b true m
-      ≡ min (keyCell costs A B a b false m) (pick ((2 - m % 3) / 2) u noKey + getD costs 2 0)
+  pub free-by-bits : (x : ℕ) → (3 ≤ m → x ≡ u + getD costs 2 0)
+      → keyCell costs A B a b true m ≡ min (keyCell costs A B a b false m) (pick ((2 - m % 3) / 2) x noKey)
   unfolding pick rises letterBy
-  free-by-bits = rw (step true, step false) (go (m % 3) (omega arith))
+  free-by-bits x is = rw (step true, step false) (go (m % 3) refl)
     where
-      go : (r : ℕ) → r < 3
+      go : (r : ℕ) → m % 3 ≡ r
           → min noKey (min beside (thirdKey costs true r u))
-          ≡ min (min noKey (min beside (thirdKey costs false r u))) (pick ((2 - r) / 2) u noKey + getD costs 2 0)
-      go zero l = omega arith
-      go (suc zero) l = omega arith
-      go (suc (suc zero)) l = omega arith
-      go (suc (suc (suc r))) l = absurd (omega arith)
+          ≡ min (min noKey (min beside (thirdKey costs false r u))) (pick ((2 - r) / 2) x noKey)
+      go zero e = omega (arith, is (omega arith))
+      go (suc zero) e = omega arith
+      go (suc (suc zero)) e = omega arith
+      go (suc (suc (suc r))) e = absurd (omega arith)

@@ -194,7 +194,8 @@ module _
   beside-is =
       let left : 1 ≤ restAt n (a + 1) b = rw (rest-right, ← s .walked .here) (omega (arith, s .more)) in
       ap (λ (i : ℕ). getD scratch i 0) (omega arith)
-      ∙ read-after-a (keyCell costs A B) n scratch (a + 1) b (s .keys .table) (omega (arith, s .low-a)) (omega (arith, s .low-b)) left
+      ∙ read-after-a (keyCell costs A B) n scratch (a + 1) b (s .keys .table) (omega (arith, s .low-a)) (omega (arith, s .low-b))
+      left
       ∙ rw (rest-right, add-one, ← s .walked .here)
 
   above-is : 1 ≤ rest / 3 → above ≡ keyCell costs A B a (suc b) true (rest / 3)
@@ -230,7 +231,8 @@ module _
   unfolding up rises
   third-is = go (rest % 3) refl
     where
-      go : (r : ℕ) → rest % 3 ≡ r → thirdKey costs free r above ≡ thirdKey costs free r (keyCell costs A B a (suc b) true (rest / 3))
+      go : (r : ℕ) → rest % 3 ≡ r
+          → thirdKey costs free r above ≡ thirdKey costs free r (keyCell costs A B a (suc b) true (rest / 3))
       go zero e = rw (above-is (some-above (omega arith)))
       go (suc zero) e = rw (above-is (some-above (omega arith)))
       go (suc (suc r)) e = refl
@@ -238,7 +240,9 @@ module _
   -- `third` is the key by a rise of b. The smaller one is the least key.
   module _ {third : ℕ} (told : third ≡ thirdKey costs free (rest % 3) above) where
     least-is : keyCell costs A B a b free rest ≡ min half third
-    least-is = let e = least-step noKey (costsBy costs) A B free p rest (s .more) in omega (arith, s .walked .low, half-is, third-is)
+    least-is =
+        let e = least-step noKey (costsBy costs) A B free p rest (s .more) in
+        omega (arith, s .walked .low, half-is, third-is)
 
     -- The letter l leads to the point (a′, b′).
     risen : (l : ℕ) (g : Bool) (a′ b′ m : ℕ)
@@ -289,7 +293,8 @@ module _
       pub step-b : KeyRisen costs A B n a b (2 + rest % 3) a (b + 1) true (rest / 3)
       step-b =
           let third-more = third-above costs free (rest % 3) above (raised .0) in
-          risen (2 + rest % 3) true a (b + 1) (rest / 3) (rw add-one (raised .1)) (omega arith) (rw (rest-up, s .walked .here)) third-left
+          risen (2 + rest % 3) true a (b + 1) (rest / 3) (rw add-one (raised .1)) (omega arith) (rw (rest-up, s .walked .here))
+          third-left
           (rw add-one (omega (arith, above-is third-left, least-is, s .walked .low)))
 
 -- ---- writing

@@ -6,6 +6,7 @@
 // remainders by three of all its rests, so no cell is divided, and a bit chooses a cost without a branch.
 //
 // `doublings` and `triplings` are the limits A and B.
+use std::num::wrapping_add_u64;
 ghost use mathlib.Core.Path.{_≡_};
 ghost use Prim.Native.Nat.{_≤_, _%_, min};
 ghost use lib.ListN.{length};
@@ -62,10 +63,10 @@ fn fill_none(part: &mut [u64], from: usize, end: usize)
 // The columns below `start`, where those from `start` on are filled and `right` is the second number of column `start`.
 //
 // Bit a of `ones` is 1 where the remainder by three of column a's rest is 1, bit a of `zeros` where it is 0 (grid, Masks). At 1
-// both readers let b rise, by the letter 3; at 0 the first reader alone, by the letter 2; at 2 none. Where nothing is left above, the
-// remainder is 2: what stands there is free, and is not chosen. What a rise of b gives is cut at `NONE`, so both numbers are, and no
-// column waits for a cut of the one right of it. The costs are read once, before the loop: they stay in registers, and each choice is
-// compiled to a conditional move.
+// both readers let b rise, by the letter 3; at 0 the first reader alone, by the letter 2; at 2 none. Where nothing is left above,
+// the remainder is 2: what stands there is free, so a sum with it may wrap, and is not chosen. What a rise of b gives is cut at
+// `NONE`, so both numbers are, and no column waits for a cut of the one right of it. The costs are read once, before the loop: they
+// stay in registers, and each choice is compiled to a conditional move.
 fn fill_below(
     part: &mut [u64],
     m: u64,
@@ -91,15 +92,17 @@ fn fill_below(
     while 0 < a {
         a -= 1;
         let above = part[128 + 2 * a];
-        let third = least(NONE, picked(ones >> a, above, NONE) + part_b_rises);
+        let by_3 = wrapping_add_u64(above, part_b_rises);
+        let by_2 = wrapping_add_u64(above, b_rises);
+        let third = least(NONE, picked(ones >> a, by_3, NONE));
         after = least(after + picked(m >> a, part_a_rises, a_rises), third);
         part[2 * a + 1] = after;
-        part[2 * a] = least(after, picked(zeros >> a, above, NONE) + b_rises);
+        part[2 * a] = least(after, picked(zeros >> a, by_2, NONE));
     }
 }
 
-// A row in which something is left, within the limit on triplings. In the column `top` the rest is 1; behind it nothing is left, and
-// nothing is written.
+// A row in which something is left, within the limit on triplings. In the column `top` the rest is 1; behind it nothing is left,
+// and nothing is written.
 fn fill_live(
     part: &mut [u64],
     m: u64,
@@ -125,8 +128,8 @@ fn fill_live(
     }
 }
 
-// The row step: one row, in the part that begins at it, the row above at 128. Only the cells where something is left are written; where
-// b is above its limit, none of them has a word.
+// The row step: one row, in the part that begins at it, the row above at 128. Only the cells where something is left are written;
+// where b is above its limit, none of them has a word.
 fn fill_row(
     part: &mut [u64],
     m: u64,

@@ -14,8 +14,8 @@ struct Walk {
     letter: u8,
 }
 
-// The key by a rise of b, at a remainder by three, where `above` stands in the cell above. At 2 no reader lets b rise, and what stands
-// above is free where nothing is left there.
+// The key by a rise of b, at a remainder by three, where `above` stands in the cell above. At 2 no reader lets b rise, and what
+// stands above is not looked at: nothing may be left there.
 fn third_key(free: bool, rem: u64, above: u64, costs: &[u64; 5]) -> u64
     requires { ⌜ ThirdAsked (now costs) rem above ⌝ }
     ensures { λ r. ⌜ r ≡ thirdKey (now (costs .entry)) free rem above ⌝ }

@@ -4,7 +4,7 @@ use Prim.Native.Nat.{_-_, _/_, _%_, _^_}
 use native.Mathlib.Omega.{arith}
 use borrow.Author.Needs.{needs}
 use lib.ListN.{length-set}
-use Rattle.best.specs.KeyRows.{Below, below-none, below-room, ones-fits, zeros-fits, after-fits, below-more}
+use Rattle.best.specs.KeyRows.{Below, below-none, below-room, after-fits, below-more}
 use Rattle.best.proofs.keys.fill_below.Statement.{statement}
 use Rattle.best.proofs.keys.fill_below.Tie as tie
 
@@ -23,32 +23,22 @@ slice-read-above c =
 
 add-least : tie.Need-add-least Inv-loop μ-loop
 add-least c =
-    let l = c .before .before .before in
-    let s = l .before .before .before .before .before .before in
-    omega (arith, c .picked .ensures, ones-fits (s .pre) (l .loop .inv) (l .loop .a - 1) (omega arith))
-
-add-least-2 : tie.Need-add-least-2 Inv-loop μ-loop
-add-least-2 c =
-    let l = c .before .before .before .before .before in
+    let l = c .before .before .before .before .before .before .before in
     let s = l .before .before .before .before .before .before in
     let fits = after-fits (s .pre) (l .loop .inv) (l .loop .a - 1) (omega arith) (s .args .m / 2 ^ (l .loop .a - 1) % 2) in
     omega (arith, c .picked2 .ensures)
-
-add-least-3 : tie.Need-add-least-3 Inv-loop μ-loop
-add-least-3 c =
-    let l = c .before .before .before .before .before .before .before in
-    let s = l .before .before .before .before .before .before in
-    omega (arith, c .picked3 .ensures, zeros-fits (s .pre) (l .loop .inv) (l .loop .a - 1) (omega arith) (s .fits .m .fits))
 
 loop-again : tie.Need-loop-again Inv-loop μ-loop
 loop-again c =
     let y = c .before .before in
     let p = y .before .before in
-    let l = p .before .before .before .before in
+    let w = p .before .before in
+    let l = w .before .before .before .before in
     let s = l .before .before .before .before .before .before in
     below-more (s .pre) (l .loop .inv) (l .loop .a - 1) (omega arith) (s .fits .m .fits)
-    (y .least2 .ensures ∙ rw (y .before .picked2 .ensures, p .least .ensures, p .before .picked .ensures))
-    (c .least3 .ensures ∙ rw (c .before .picked3 .ensures))
+    (y .least2 .ensures
+    ∙ rw (y .before .picked2 .ensures, p .least .ensures, p .before .picked .ensures, w .before .wrapping-add-u64 .ensures))
+    (c .least3 .ensures ∙ rw (c .before .picked3 .ensures, w .wrapping-add-u642 .ensures))
 
 returns : tie.Need-returns Inv-loop μ-loop
 returns c =
@@ -72,21 +62,21 @@ fill-below-spec =
     (λ c. search needs)
     (λ c. search needs)
     slice-read-above
+    (λ c κs. search needs)
+    (λ c κs. search needs)
+    (λ c. search needs)
+    (λ c κs. search needs)
+    (λ c κs. search needs)
     (λ c. search needs)
     (λ c κs. search needs)
     add-least
     (λ c κs. search needs)
     (λ c. search needs)
-    (λ c κs. search needs)
-    add-least-2
-    (λ c κs. search needs)
-    (λ c. search needs)
     (λ c. search needs)
     (λ c. search needs)
     (λ c. search needs)
     (λ c. search needs)
     (λ c κs. search needs)
-    add-least-3
     (λ c κs. search needs)
     (λ c. search needs)
     (λ c. search needs)
