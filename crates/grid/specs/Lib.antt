@@ -1,4 +1,8 @@
--- The theory of a table over the points (a, b), filled row by row from the highest b down, over any meaning of its cells.
+-- A table over the points (a, b), filled row by row from the highest b down, over any meaning of its cells.
+--   Grid   the scratch, rows and tables, what filling them asks and leaves (definitions)
+--   Rests  the rests of a row, and at a point
+--   Masks  the remainders by three of a row's rests, all at once
+--   Fill   how a row and a table are filled and read
 pub mod Grid
 pub mod Rests
 pub mod Masks

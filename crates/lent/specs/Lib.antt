@@ -1,3 +1,3 @@
--- What a service leaves in memory that it was lent.
+-- What a service leaves in memory that it was lent (Lent), and memory that is lent on in part (Parts).
 pub mod Lent
 pub mod Parts

@@ -1,6 +1,10 @@
--- What the services on words answer and leave behind, as definitions, and the laws that tie the answers to document 01 and 003.
--- What a reader must believe: Answers (good words, comparing, weighing), Records (a burned record),
--- Conversions (from a record to its word, from a word to its parts). CompareLaws is theory.
+-- What the services on words answer and leave behind. What a reader must believe, in this order: Answers (good words, comparing,
+-- weighing), Records (a burned record), Conversions (from a record to its word, from a word to its parts). The theorems on them:
+--   CompareLaws  comparing is the dictionary order, and 7
+--   RecordLaws   a record gets its sum exactly if it names a chain
+--   WordLaws     chains through records and words
+-- What the private functions cite:
+--   Walks        the walk that writes a word
 pub mod Answers
 pub mod Records
 pub mod Conversions
