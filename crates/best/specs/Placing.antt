@@ -3,7 +3,7 @@
 -- In this order: the answer of placing; what holds at each return of the best chain; too little is lent, and enough; no word, and
 -- the chosen word.
 use mathlib.Core.Path.{_≡_, refl, _∙_}
-use mathlib.Core.Bool.{true, false}
+use mathlib.Core.Bool.{true}
 use mathlib.Core.List.{List, []}
 use mathlib.Core.Option.{none}
 use Prim.Native.Nat.{ℕ, _^_, _≤_, _<_}
