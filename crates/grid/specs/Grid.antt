@@ -26,7 +26,8 @@ abbrev pub Meaning : Type 0
 Meaning = ℕ → ℕ → Bool → ℕ → ℕ
 
 -- The columns from j on of row b, at the start of l, are right wherever something is left, where m is the rest of the row's first
--- column. What stands where nothing is left is free: no walk comes there, and it is not written.
+-- column. What stands where nothing is left is free: no walk comes there, and where filling reads it, above a rest of 2, no number
+-- depends on it.
 pub record RowFrom (G : Meaning) (b m j : ℕ) (l : List ℕ) : Type 0 where
   pub free : (i : ℕ) → j ≤ i → i < 64 → 1 ≤ m / 2 ^ i → getD l (2 * i) 0 ≡ G i b true (m / 2 ^ i)
   pub after-a : (i : ℕ) → j ≤ i → i < 64 → 1 ≤ m / 2 ^ i → getD l (2 * i + 1) 0 ≡ G i b false (m / 2 ^ i)

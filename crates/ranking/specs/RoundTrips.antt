@@ -53,13 +53,13 @@ unfolding lentScratch
 scratch-enough scratch o h = rw (le-ltb (length scratch) scratchSize h)
 
 -- A chain is answered only where enough is lent and the service's own outcome gives one.
-pick-gives :
+own-gives :
     (b : Bool) (o : Outcome)
     → ((r : ℕ) → cond b (refused 1) o ≡ refused r → ⊥)
     → (n : ℕ) × (c : List Part) × (b ≡ false) × (o ≡ gives n c)
-pick-gives true o given = absurd (given 1 refl)
-pick-gives false (refused r) given = absurd (given r refl)
-pick-gives false (gives n c) given = (n, c, refl, refl)
+own-gives true o given = absurd (given 1 refl)
+own-gives false (refused r) given = absurd (given r refl)
+own-gives false (gives n c) given = (n, c, refl, refl)
 
 found-gives :
     {P : Type 0} (scratch places : List ℕ) (o : Outcome) (n i k : ℕ)
@@ -69,7 +69,7 @@ found-gives :
 unfolding lent answerOf
 found-gives scratch places o n i k e then =
     let (m, c, enough, given) =
-    pick-gives (tooLittle scratch places) o (λ r f. let z : _≡_ {A = ℕ} 0 1 = cc (rw f at e) in omega arith) in
+    own-gives (tooLittle scratch places) o (λ r f. let z : _≡_ {A = ℕ} 0 1 = cc (rw f at e) in omega arith) in
     let g = rw (enough, given) at e in
     let number : m ≡ n = cc g in
     then c (given ∙ ap (λ (x : ℕ). gives x c) number) enough (cc g) (cc g)
@@ -82,7 +82,7 @@ placed-gives :
 unfolding lentScratch placedOf
 placed-gives scratch o n i e then =
     let (m, c, enough, given) =
-    pick-gives (ltb (length scratch) scratchSize) o (λ r f. let z : _≡_ {A = ℕ} 0 1 = cc (rw f at e) in omega arith) in
+    own-gives (ltb (length scratch) scratchSize) o (λ r f. let z : _≡_ {A = ℕ} 0 1 = cc (rw f at e) in omega arith) in
     let g = rw (enough, given) at e in
     let number : m ≡ n = cc g in
     then c (given ∙ ap (λ (x : ℕ). gives x c) number) (cc g)
