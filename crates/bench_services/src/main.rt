@@ -160,7 +160,7 @@ fn sum_of_placed(times: u64, scratch: &mut [u64]) -> u64 {
 fn main() {
     let service = word_at(1);
     let times = word_at(2);
-    let mut scratch = [0u64; 5248];
+    let mut scratch = [0u64; lent::SCRATCH];
     let sum = match service {
         1 => sum_of_counts(times, &mut scratch),
         2 => sum_of_best(times, &mut scratch),

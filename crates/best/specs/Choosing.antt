@@ -8,6 +8,7 @@ use native.Mathlib.Omega.{arith}
 use lib.Dec.{T}
 use lib.ListN.{length, getD, take, drop}
 use borrow.Author.Tests.{lt-leb}
+use Rattle.lent.specs.Lent.{scratchSize}
 use Rattle.chains.specs.Chains.{ChainOf}
 use Rattle.chains.specs.Words.{Word, origin, chainFrom, chainOf, reads}
 use Rattle.chains.specs.Listing.{wordsAt}
@@ -19,7 +20,7 @@ use Rattle.chains.specs.Bounds.{parts-bound}
 use Rattle.chains.specs.Keys.{Costs, key, inGrid, bestAt, keyOr, leastKey}
 use Rattle.chains.specs.Bests.{FirstLeast, first-member, best-zero, best-found}
 use Rattle.chains.specs.BestOfAll.{costsOf, upTo, bestOf, key-price, price-fits}
-use Rattle.grid.specs.Grid.{scratchSize, RowsFilled}
+use Rattle.grid.specs.Grid.{RowsFilled}
 use Rattle.best.specs.declared.choosing.Choice.{Choice}
 use Rattle.best.specs.declared.choosing.Choice.the-variants as choice
 use Rattle.best.specs.KeyTable.{partWeight, noKey, Low, letterCosts, Cheap, prices-low, prices-costs, keyCell}

@@ -12,6 +12,7 @@ use native.Mathlib.Nat.{le-mul-of-pos-right, le-trans, lt-of-not-le, mul-comm, o
 use native.Mathlib.Omega.{arith}
 use lib.ListN.{length}
 use lib.Pow.{pow-mono, pow-pos}
+use Rattle.lent.specs.Lent.{Enough}
 use Rattle.chains.specs.Chains.{Part, value, ChainOf}
 use Rattle.chains.specs.Listing.{position}
 use Rattle.chains.specs.Best.{Prices, price, Limits, Within, IsBest}
@@ -20,7 +21,7 @@ use Rattle.chains.specs.BestOfAll.{bestOf, price-fits, best-of-zero, best-uniqu
 use Rattle.ranking.specs.Services.{Outcome, refused, gives, lent}
 use Rattle.best.specs.declared.Chosen.{Chosen}
 use Rattle.best.specs.declared.Chosen.the-variants.{Chain, Refused}
-use Rattle.ranking.specs.RoundTrips.{Enough, lent-all}
+use Rattle.ranking.specs.RoundTrips.{lent-all}
 use Rattle.best.specs.Chosen.{orNone, bestOutcome, chosenOf}
 use Rattle.best.specs.KeyTable.{Cheap}
 
@@ -86,7 +87,7 @@ module _ {n : ℕ} (lim : Limits) {π : Prices} (fits : n < 2 ^ 64) (cheap : Che
       is-refused o (nothing f) g = refl
 
   -- The answer.
-  pub demand-3 : {s p : List ℕ} → Enough s p → Meets n lim π (chosenOf π (lent s p (bestOutcome n lim π)))
+  pub demand-3 : {s p : List ℕ} → Enough 64 s p → Meets n lim π (chosenOf π (lent s p (bestOutcome n lim π)))
   unfolding chosenOf
   demand-3 {s} {p} h = rw (lent-all s p (bestOutcome n lim π) h) (go (bestOutcome n lim π) told)
     where

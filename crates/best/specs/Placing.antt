@@ -12,13 +12,13 @@ use borrow.Author.Tests.{lt-ltb, le-ltb, le-leb}
 use borrow.Rule.Slice.PartMut.{midOf, putMid}
 use lib.Ieee.Bits.{is-true}
 use lib.ListN.{length, take}
+use Rattle.lent.specs.LentLaws.{cleared, enough, left-zeroed}
 use Rattle.chains.specs.Words.{chainOf, reads}
 use Rattle.chains.specs.Best.{Prices, Limits}
 use Rattle.chains.specs.BestOfAll.{costsOf, upTo, bestOf}
-use Rattle.lent.specs.Lent.{zeros, filled, cleared}
-use Rattle.grid.specs.Grid.{scratchSize, scratchLeft}
-use Rattle.ranking.specs.Services.{Outcome, gives, tooLittle, lent, answerOf, placesLeft, ofWord}
-use Rattle.ranking.specs.RoundTrips.{Enough, enough, lent-all}
+use Rattle.lent.specs.Lent.{zeros, filled, scratchSize, scratchLeft, tooLittle, Enough}
+use Rattle.ranking.specs.Services.{Outcome, gives, lent, answerOf, placesLeft, ofWord}
+use Rattle.ranking.specs.RoundTrips.{lent-all}
 use Rattle.ranking.specs.declared.Found.{Found}
 use Rattle.ranking.specs.declared.Found.the-variants as found
 use Rattle.best.specs.declared.Chosen.{Chosen}
@@ -37,27 +37,18 @@ pricedOf p (found.Refused r) = Refused r
 -- The answer r, the places p′ and the scratch s′ are those of an outcome, where s and p were lent.
 abbrev pub Served : Prices → Outcome → List ℕ → List ℕ → Chosen → List ℕ → List ℕ → Type 0
 Served π o s p r p′ s′ =
-    (r ≡ chosenOf π (lent s p o)) × ((p′ ≡ placesLeft (lent s p o) p) × (s′ ≡ scratchLeft (tooLittle s p) s))
+    (r ≡ chosenOf π (lent s p o)) × ((p′ ≡ placesLeft (lent s p o) p) × (s′ ≡ scratchLeft (tooLittle 64 s p) s))
 
 module _ (π : Prices) (o : Outcome) (s p : List ℕ) where
-  little : tooLittle s p ≡ true → Served π o s p (Refused 1) p s
+  pub little : tooLittle 64 s p ≡ true → Served π o s p (Refused 1) p s
   unfolding chosenOf lent placesLeft scratchLeft
   little e = rw e (refl, (refl, refl))
 
-  pub little-scratch : length s < scratchSize → Served π o s p (Refused 1) p s
-  unfolding tooLittle
-  little-scratch h = little (rw (lt-ltb (length s) scratchSize h))
-
-  pub little-places : scratchSize ≤ length s → length p < 64 → Served π o s p (Refused 1) p s
-  unfolding tooLittle
-  little-places h k = little (rw (le-ltb (length s) scratchSize h, lt-ltb (length p) 64 k))
-
 -- Enough is lent: the scratch is zeroed.
-scratch-zeroed : (s p : List ℕ) → Enough s p → scratchLeft (tooLittle s p) s ≡ filled scratchSize [] s
-unfolding scratchLeft
-scratch-zeroed s p h = rw (enough s p h)
+scratch-zeroed : (s p : List ℕ) → Enough 64 s p → scratchLeft (tooLittle 64 s p) s ≡ filled scratchSize [] s
+scratch-zeroed s p h = left-zeroed (tooLittle 64 s p) s (enough 64 s p h)
 
-module _ (π : Prices) (n : ℕ) (lim : Limits) {s p : List ℕ} (h : Enough s p) where
+module _ (π : Prices) (n : ℕ) (lim : Limits) {s p : List ℕ} (h : Enough 64 s p) where
   -- ---- no word
 
   pub none-served : {l ys : List ℕ} → Used s l → bestOf partWeight n lim π ≡ none → ys ≡ zeros (length (midOf 0 scratchSize l))
@@ -83,11 +74,11 @@ module _ (π : Prices) (n : ℕ) (lim : Limits) {s p : List ℕ} (h : Enough s p
     pub word-served : {l p′ s′ : List ℕ} {r : Chosen} → Used s l
         → r ≡ pricedOf told (answerOf (lent l p (ofWord (take k letters))))
         → p′ ≡ placesLeft (lent l p (ofWord (take k letters))) p
-        → s′ ≡ scratchLeft (tooLittle l p) l
+        → s′ ≡ scratchLeft (tooLittle 64 l p) l
         → Served π (bestOutcome n lim π) s p r p′ s′
     unfolding pricedOf answerOf chosenOf filled
     word-served {l} u e f g =
-        let still : Enough l p = record { numbers = omega (arith, h .numbers, u .same); room = h .room } in
+        let still : Enough 64 l p = record { numbers = omega (arith, h .numbers, u .same); room = h .room } in
         let all = lent-all l p (ofWord (take k letters)) still in
         rw (lent-all s p (bestOutcome n lim π) h, best, scratch-zeroed s p h) (
           e ∙ rw (all, read, w .told),

@@ -14,12 +14,13 @@ use native.Mathlib.Omega.{arith}
 use lib.Dec.{T}
 use lib.Pow.{shr-le}
 use lib.ListN.{length, getD, set, take, drop, length-set, take-append-drop}
+use Rattle.lent.specs.Lent.{scratchSize}
 use Rattle.chains.specs.Chains.{Part}
 use Rattle.chains.specs.Words.{Word, origin, right, up}
 use Rattle.chains.specs.Members.{rises}
 use Rattle.chains.specs.Keys.{inside, bestAt}
 use Rattle.chains.specs.Bests.{lead, keyA, keyB, best-one, least-step, take-a, take-b, least-told}
-use Rattle.grid.specs.Grid.{scratchSize, Table}
+use Rattle.grid.specs.Grid.{Table}
 use Rattle.grid.specs.Rests.{below-last-row, restAt, rest-origin, rest-right, rest-up, point-low}
 use Rattle.grid.specs.Fill.{read-free, read-after-a}
 use Rattle.ranking.specs.Points.{drop-more, take-more, take-stored}
@@ -127,11 +128,11 @@ third-above costs f r above h = go (rises f r) h
     go true t = omega arith
     go false t = absurd t
 
-letter-place : (costs : List ℕ) (r : ℕ) → r < 2 → letterBy costs r ≡ getD costs r 0
+letter-cost : (costs : List ℕ) (r : ℕ) → r < 2 → letterBy costs r ≡ getD costs r 0
 unfolding letterBy
-letter-place costs zero h = refl
-letter-place costs (suc zero) h = refl
-letter-place costs (suc (suc r)) h = absurd (omega arith)
+letter-cost costs zero h = refl
+letter-cost costs (suc zero) h = refl
+letter-cost costs (suc (suc r)) h = absurd (omega arith)
 
 -- ---- the start
 
@@ -225,7 +226,7 @@ module _
 
   half-is : half ≡ keyA noKey (costsBy costs) A B p rest
   unfolding right
-  half-is = omega (arith, beside-is, letter-place costs (rest % 2) (omega arith))
+  half-is = omega (arith, beside-is, letter-cost costs (rest % 2) (omega arith))
 
   third-is : thirdKey costs free (rest % 3) above ≡ keyB noKey (costsBy costs) A B free p rest
   unfolding up rises

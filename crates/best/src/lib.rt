@@ -6,9 +6,9 @@ mod walk;
 
 use choosing::Choice;
 ghost use mathlib.Core.Path.{_≡_};
-ghost use Rattle.ranking.specs.Services.{lent, tooLittle, placesLeft};
+ghost use Rattle.lent.specs.Lent.{tooLittle, scratchLeft};
+ghost use Rattle.ranking.specs.Services.{lent, placesLeft};
 ghost use Rattle.best.specs.Chosen.{limitsOf, pricesOf, bestOutcome, chosenOf};
-ghost use Rattle.grid.specs.Grid.{scratchLeft};
 
 // The best chain, its parts in the places, or the refusal.
 pub enum Chosen {
@@ -41,9 +41,9 @@ pub fn best_chain(
         ≡ placesLeft
         (lent (now (scratch .entry)) (now (places .entry)) (bestOutcome n (limitsOf «parts_limit» «a_limit» «b_limit») (pricesOf d t s)))
         (now (places .entry)) ⌝ }
-    ensures scratch { λ _. ⌜ now (scratch .exit) ≡ scratchLeft (tooLittle (now (scratch .entry)) (now (places .entry))) (now (scratch .entry)) ⌝ }
+    ensures scratch { λ _. ⌜ now (scratch .exit) ≡ scratchLeft (tooLittle 64 (now (scratch .entry)) (now (places .entry))) (now (scratch .entry)) ⌝ }
 {
-    if scratch.len() < 5248 {
+    if scratch.len() < lent::SCRATCH {
         return Chosen::Refused(1);
     }
     if places.len() < 64 {
@@ -68,7 +68,7 @@ pub fn best_chain(
             places,
         ),
         Choice::Nothing => {
-            lent::clear_u64(&mut scratch[0..5248]);
+            lent::clear_u64(&mut scratch[0..lent::SCRATCH]);
             Chosen::Refused(5)
         }
     }

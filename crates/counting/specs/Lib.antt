@@ -1,5 +1,9 @@
--- What the calls of this crate answer, and the table of counts: PlainCount and TableCount say what each call answers and leaves
--- behind, Table what stands in a table of counts.
+-- What the calls of this crate answer, and the table of counts.
+--   PlainCount  what the plain count answers; PlainLaws has its cases
+--   TableCount  what the table count answers and leaves; TableLaws has its cases
+--   Table       what stands in a table of counts
 pub mod PlainCount
+pub mod PlainLaws
 pub mod Table
 pub mod TableCount
+pub mod TableLaws

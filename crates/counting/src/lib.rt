@@ -6,9 +6,9 @@ mod rows;
 mod six_lines;
 
 ghost use mathlib.Core.Path.{_≡_};
-ghost use lib.ListN.{length};
+ghost use Rattle.lent.specs.Lent.{littleScratch, scratchLeft};
 ghost use Rattle.counting.specs.PlainCount.{plainOf};
-ghost use Rattle.counting.specs.TableCount.{countedOf, scratchAfter, TableAsked};
+ghost use Rattle.counting.specs.TableCount.{countedOf, TableAsked};
 
 // What a count answers: the count, or the number of the refusal.
 pub enum Counted {
@@ -26,14 +26,14 @@ pub fn plain_count(n: u64) -> Counted
     Counted::Count(six_lines::count_of(n))
 }
 
-// The count of any n, with a scratch of at least 5,248 numbers, whatever they hold; refusal 1 with a smaller one. Leaves the table
+// The count of any n, with a scratch of at least `lent::SCRATCH` numbers, whatever they hold; refusal 1 with a smaller one. Leaves the table
 // of the counts at the points of n in the scratch, and everything untouched where it refuses. The table says nothing where nothing
 // is left, so the number 0 is answered apart: it has one chain, the empty one.
 pub fn fill_counts(n: u64, scratch: &mut [u64]) -> Counted
-    ensures { λ r. ⌜ r ≡ countedOf n (length (now (scratch .entry))) ⌝ }
+    ensures { λ r. ⌜ r ≡ countedOf n (now (scratch .entry)) ⌝ }
     ensures { λ _. ⌜ TableAsked n (now (scratch .entry)) (now (scratch .exit)) ⌝ }
 {
-    if scratch.len() < 5248 {
+    if scratch.len() < lent::SCRATCH {
         return Counted::Refused(1);
     }
     rows::fill_rows(scratch, 0, n);
@@ -43,14 +43,14 @@ pub fn fill_counts(n: u64, scratch: &mut [u64]) -> Counted
     Counted::Count(scratch[0])
 }
 
-// The same, but with the first 5,248 numbers left zero.
+// The same, but with the first `lent::SCRATCH` numbers left zero.
 pub fn table_count(n: u64, scratch: &mut [u64]) -> Counted
-    ensures { λ r. ⌜ r ≡ countedOf n (length (now (scratch .entry))) ⌝ }
-    ensures { λ _. ⌜ now (scratch .exit) ≡ scratchAfter (now (scratch .entry)) ⌝ }
+    ensures { λ r. ⌜ r ≡ countedOf n (now (scratch .entry)) ⌝ }
+    ensures { λ _. ⌜ now (scratch .exit) ≡ scratchLeft (littleScratch (now (scratch .entry))) (now (scratch .entry)) ⌝ }
 {
     let Counted::Count(count) = fill_counts(n, scratch) else {
         return Counted::Refused(1);
     };
-    lent::clear_u64(&mut scratch[0..5248]);
+    lent::clear_u64(&mut scratch[0..lent::SCRATCH]);
     Counted::Count(count)
 }

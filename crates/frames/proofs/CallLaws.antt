@@ -12,10 +12,10 @@ use borrow.Author.Tests.{le-ltb}
 use lib.ListN.{length, take, length-append, length-drop, length-map}
 use lib.Seq.{take-append-seam}
 use Rattle.chains.specs.Chains.{Part}
-use Rattle.grid.specs.Grid.{scratchSize, scratchLeft}
-use Rattle.lent.specs.Lent.{zeros, filled}
-use Rattle.parts.specs.Parts.{placeOf}
-use Rattle.ranking.specs.Services.{Outcome, refused, gives, answerOf, placesLeft, tooLittle, lent}
+use Rattle.lent.specs.Lent.{zeros, filled, scratchSize, scratchLeft, tooLittle, Enough}
+use Rattle.lent.specs.LentLaws.{enough}
+use Rattle.parts.specs.Parts.{partNumber}
+use Rattle.ranking.specs.Services.{Outcome, refused, gives, answerOf, placesLeft, lent}
 use Rattle.ranking.specs.RoundTrips.{numbers-left}
 use Rattle.ranking.specs.declared.Found.{Found}
 use Rattle.ranking.specs.declared.Found.the-variants as found
@@ -63,27 +63,26 @@ module _ (width : ℕ) (line entry l : List ℕ) (k : ℕ) (e : k ≡ length (wr
 -- ---- enough is lent to a service
 
 module _ (s p : List ℕ) (numbers : scratchSize ≤ length s) (room : length p ≡ 64) where
-  enough : tooLittle s p ≡ false
-  unfolding tooLittle
-  enough = rw (le-ltb (length s) scratchSize numbers, le-ltb (length p) 64 (omega arith))
+  all-lent : tooLittle 64 s p ≡ false
+  all-lent = enough 64 s p (record { numbers = numbers; room = omega arith })
 
   -- Its outcome is its own, and it zeroes the scratch.
   pub own-outcome : (o : Outcome) → lent s p o ≡ o
   unfolding lent
-  own-outcome o = rw enough
+  own-outcome o = rw all-lent
 
-  pub scratch-zeroed : (s′ : List ℕ) → s′ ≡ scratchLeft (tooLittle s p) s → s′ ≡ filled scratchSize [] s
+  pub scratch-zeroed : (s′ : List ℕ) → s′ ≡ scratchLeft (tooLittle 64 s p) s → s′ ≡ filled scratchSize [] s
   unfolding scratchLeft
-  scratch-zeroed s′ e = rw enough at e
+  scratch-zeroed s′ e = rw all-lent at e
 
 -- ---- a chain that a service gives
 
 -- The places keep their number, so all part numbers stand there.
 pub chain-left : (n : ℕ) (c : List Part) (p p′ : List ℕ) → p′ ≡ placesLeft (gives n c) p → length p′ ≡ 64
-    → (length c ≤ 64) × (take (length c) p′ ≡ map placeOf c)
+    → (length c ≤ 64) × (take (length c) p′ ≡ map partNumber c)
 unfolding placesLeft filled
 chain-left n c p p′ e h =
-    (omega (arith, length-map c placeOf, simp (e, length-append) at h), rw e (numbers-left n c p))
+    (omega (arith, length-map c partNumber, simp (e, length-append) at h), rw e (numbers-left n c p))
 
 module _ (f : Found) (places : List ℕ) where
   pub found-chain : (n i k : ℕ) → f ≡ found.Chain n i k → (partsIn f ≡ k) × (foundReply f places ≡ servedWith (chainDigits n i (take (k - 0) places)))
@@ -112,7 +111,7 @@ module _ (o : Outcome) (f : Found) (s p p′ : List ℕ) (numbers : scratchSize 
   pub found-fits : partsIn f ≤ 64
   found-fits = as-outcome .0
 
-  pub found-handled : (s′ : List ℕ) {r : Replied} {out out′ : List ℕ} → s′ ≡ scratchLeft (tooLittle s p) s → Told (foundReply f p′) r out out′
+  pub found-handled : (s′ : List ℕ) {r : Replied} {out out′ : List ℕ} → s′ ≡ scratchLeft (tooLittle 64 s p) s → Told (foundReply f p′) r out out′
       → Handled (chainReply o) r s s′ out out′
   found-handled s′ e told =
       record { told = rw (as-outcome .1) at told; zeroed = scratch-zeroed s p numbers room s′ e }

@@ -13,7 +13,7 @@ use Rattle.chains.specs.Chains.{Part}
 use Rattle.chains.specs.Listing.{position}
 use Rattle.chains.specs.Best.{price, IsBest}
 use Rattle.chains.specs.BestOfAll.{price-fits}
-use Rattle.parts.specs.Parts.{placeOf}
+use Rattle.parts.specs.Parts.{partNumber}
 use Rattle.ranking.specs.Services.{Outcome, refused, gives}
 use Rattle.best.specs.Chosen.{bestOutcome}
 use Rattle.best.specs.Demand3.{NoneFits, given-is-best, refused-none}
@@ -30,7 +30,7 @@ use Rattle.frames.specs.LineTrips.{Leads, chain-leads}
 pub record BestReply (line ds : List ℕ) : Type 0 where
   pub chain : List Part
   pub best : IsBest (field line 1 8) (limitsIn line) (pricesIn line) chain
-  pub digits : ds ≡ pricedDigits (field line 1 8) (position (field line 1 8) chain) (map placeOf chain) (price (pricesIn line) chain)
+  pub digits : ds ≡ pricedDigits (field line 1 8) (position (field line 1 8) chain) (map partNumber chain) (price (pricesIn line) chain)
 
 abbrev asked : List ℕ → Outcome
 asked line = bestOutcome (field line 1 8) (limitsIn line) (pricesIn line)
@@ -86,8 +86,8 @@ module _ (line : List ℕ) (f : shapeOf line ≡ fit choosing) where
 -- ---- what the reply is read back as, and leads to
 
 module _ (line ds : List ℕ) (b : BestReply line ds) where
-  pub best-read : ChainRead (field line 1 8) (position (field line 1 8) (b .chain)) (map placeOf (b .chain)) ds
-      × (field ds (18 + 2 * length (map placeOf (b .chain))) 4 ≡ price (pricesIn line) (b .chain))
+  pub best-read : ChainRead (field line 1 8) (position (field line 1 8) (b .chain)) (map partNumber (b .chain)) ds
+      × (field ds (18 + 2 * length (map partNumber (b .chain))) 4 ≡ price (pricesIn line) (b .chain))
   unfolding pricedDigits
   best-read =
       let n = field line 1 8 in
@@ -97,14 +97,14 @@ module _ (line ds : List ℕ) (b : BestReply line ds) where
       let cost = price (pricesIn line) c in
       rw (b .digits) (
         reply-read n c (digitsOf 8 cost) (b .best .chain) (number-low line 1),
-        price-read n (position n c) (map placeOf c) cost low,
+        price-read n (position n c) (map partNumber c) cost low,
       )
 
   -- Without the price's digits the reply leads to the lines of kinds 03 and 04 about its chain.
   pub best-leads : (es : List ℕ) × (cost : ℕ) × (ds ≡ es ++ digitsOf 8 cost) × Leads es
   unfolding pricedDigits
   best-leads = (
-    chainDigits (field line 1 8) (position (field line 1 8) (b .chain)) (map placeOf (b .chain)),
+    chainDigits (field line 1 8) (position (field line 1 8) (b .chain)) (map partNumber (b .chain)),
     price (pricesIn line) (b .chain),
     b .digits,
     chain-leads (field line 1 8) (b .chain) (b .best .chain) (number-low line 1),

@@ -6,8 +6,7 @@ use mathlib.Core.Path.{_≡_}
 use mathlib.Core.List.{List, []}
 use Prim.Native.Nat.{ℕ, _≤_}
 use lib.ListN.{length, take}
-use Rattle.grid.specs.Grid.{scratchSize}
-use Rattle.lent.specs.Lent.{filled}
+use Rattle.lent.specs.Lent.{filled, scratchSize}
 use Rattle.ranking.specs.declared.Found.{Found}
 use Rattle.ranking.specs.declared.Found.the-variants as found
 use Rattle.lines.specs.Lines.{shapeOf, shapeCode}
@@ -22,11 +21,6 @@ use Rattle.frames.specs.declared.Replied.{Replied}
 pub record Told (x : Reply) (r : Replied) (out out′ : List ℕ) : Type 0 where
   pub answer : r ≡ repliedOf x
   pub digits : out′ ≡ filled 514 (digitsIn x) out
-
--- Enough is lent.
-pub record EnoughLent (scratch out : List ℕ) : Type 0 where
-  pub numbers : scratchSize ≤ length scratch
-  pub room : 514 ≤ length out
 
 -- A line is replied to with x, and the scratch zeroed.
 pub record Handled (x : Reply) (r : Replied) (scratch scratch′ out out′ : List ℕ) : Type 0 where

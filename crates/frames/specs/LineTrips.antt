@@ -20,7 +20,7 @@ use Rattle.chains.specs.Listing.{count, position}
 use Rattle.chains.specs.Readers.{readers-good}
 use Rattle.chains.specs.RoundTrip.{word-reads}
 use Rattle.chains.specs.Bounds.{word-bound, parts-bound}
-use Rattle.parts.specs.Parts.{placeOf}
+use Rattle.parts.specs.Parts.{partNumber}
 use Rattle.ranking.specs.Services.{Outcome, refused, gives, atPosition, ofWord, nextOf, ofRecord}
 use Rattle.ranking.specs.Outcomes.{at-past, at-chain, of-chain, next-below, next-last, record-chain}
 use Rattle.digits.specs.Digits.{isDigit, digitsOf}
@@ -165,7 +165,7 @@ letters-fit w h =
 -- The replies to the lines about a chain c of n: at its position, by its record, by its word; and what comes after it.
 pub record ChainLines (n : ℕ) (c : List Part) : Type 0 where
   pub placed : replyTo (atLine n (position n c)) ≡ chainReply (gives n c)
-  pub burned : replyTo (recordLine (map placeOf c)) ≡ chainReply (gives n c)
+  pub burned : replyTo (recordLine (map partNumber c)) ≡ chainReply (gives n c)
   pub spelled : replyTo (wordLine (wordOf c)) ≡ chainReply (gives n c)
   pub followed : position n c + 1 < count n → replyTo (nextLine (wordOf c)) ≡ replyTo (atLine n (position n c + 1))
   pub last : position n c + 1 ≡ count n → replyTo (nextLine (wordOf c)) ≡ refusedAs 11
@@ -174,12 +174,12 @@ pub chain-lines : (n : ℕ) (c : List Part) → ChainOf n c → n < 2 ^ 64 → C
 unfolding chainReply
 chain-lines n c h f =
     let low = position-low n c h f in
-    let few : length (map placeOf c) ≤ 127 = omega (arith, length-map c placeOf, parts-bound n 64 c h f) in
+    let few : length (map partNumber c) ≤ 127 = omega (arith, length-map c partNumber, parts-bound n 64 c h f) in
     let short : length (wordOf c) ≤ 255 = omega (arith, word-bound n 64 c h f) in
     let fit = letters-fit (wordOf c) (word-reads c) in
     record {
       placed = at-reply n (position n c) f (omega arith) ∙ ap chainReply (at-chain n c h);
-      burned = record-reply (map placeOf c) few (numbers-fit n c h f) ∙ ap chainReply (record-chain n c h f);
+      burned = record-reply (map partNumber c) few (numbers-fit n c h f) ∙ ap chainReply (record-chain n c h f);
       spelled = word-reply (wordOf c) short fit ∙ ap chainReply (of-chain n c h f);
       followed = λ l. next-reply (wordOf c) short fit ∙ ap chainReply (next-below n c h f l) ∙ sym (at-reply n (position n c + 1) f low);
       last = λ l. next-reply (wordOf c) short fit ∙ ap chainReply (next-last n c h f l);
@@ -197,11 +197,11 @@ pub record Leads (ds : List ℕ) : Type 0 where
   pub placed : replyTo (atLine (field ds 1 8) (field ds 9 8)) ≡ servedWith ds
   pub burned : replyTo (recordLine (fields ds 18 2 (field ds 17 1))) ≡ servedWith ds
 
-pub chain-leads : (n : ℕ) (c : List Part) → ChainOf n c → n < 2 ^ 64 → Leads (chainDigits n (position n c) (map placeOf c))
+pub chain-leads : (n : ℕ) (c : List Part) → ChainOf n c → n < 2 ^ 64 → Leads (chainDigits n (position n c) (map partNumber c))
 unfolding chainReply
 chain-leads n c h f =
-    let ds = chainDigits n (position n c) (map placeOf c) in
-    let r : ChainRead n (position n c) (map placeOf c) ds = rw append-nil at (reply-read n c [] h f) in
+    let ds = chainDigits n (position n c) (map partNumber c) in
+    let r : ChainRead n (position n c) (map partNumber c) ds = rw append-nil at (reply-read n c [] h f) in
     let l = chain-lines n c h f in
     record {
       placed = rw (r .number, r .place) (l .placed);
@@ -217,7 +217,7 @@ outcome-leads o s ds e = go o refl
         let z : _≡_ {A = ℕ} 0 1 = cc (rw g at e) in
         absurd (omega arith)
     go (gives n c) g =
-        let same : chainDigits n (position n c) (map placeOf c) ≡ ds = cc (rw g at e) in
+        let same : chainDigits n (position n c) (map partNumber c) ≡ ds = cc (rw g at e) in
         rw same at (chain-leads n c (s .chain n c g) (s .fits n c g))
 
 -- So do all replies of the kinds 03, 04, 05 and 06.

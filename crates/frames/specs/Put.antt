@@ -10,9 +10,10 @@ use native.Mathlib.Omega.{arith}
 use borrow.Rule.Slice.PartMut.{midOf, putMid, post-is, mid-len}
 use lib.ListN.{length, take, drop, take-append-drop, length-append, length-drop, drop-of-length-le}
 use lib.Seq.{length-take-le, drop-drop, take-at, drop-append-add}
+use Rattle.lent.specs.LentLaws.{length-zeros}
 use Rattle.digits.specs.Digits.{digitsOf, putDigits}
 use Rattle.digits.specs.DigitLaws.{length-digits, put-room}
-use Rattle.lent.specs.Lent.{zeros, filled, length-zeros}
+use Rattle.lent.specs.Lent.{zeros, filled}
 use Rattle.lent.specs.Parts.{part-lent}
 
 -- l with xs in the place of what stood there, from `at` on.

@@ -3,15 +3,13 @@
 --
 -- In this order: replies and their digits; the reply to a line; what a call answers and leaves behind.
 -- Definitions only. The theory is in ReplyLaws, and that the services' outcomes are 003's chains in the crates of the services.
-use mathlib.Core.Bool.{Bool, true, false, cond, _||_}
+use mathlib.Core.Bool.{Bool, true, false, cond}
 use mathlib.Core.List.{List, map}
 use Prim.Native.Nat.{ℕ}
-use lib.Dec.{ltb}
 use lib.ListN.{length}
 use Rattle.chains.specs.Listing.{count, position}
 use Rattle.chains.specs.Best.{Prices, Limits, price}
-use Rattle.parts.specs.Parts.{placeOf}
-use Rattle.grid.specs.Grid.{scratchSize}
+use Rattle.parts.specs.Parts.{partNumber}
 use Rattle.lent.specs.Lent.{filled}
 use Rattle.ranking.specs.Services.{Outcome, refused, gives, atPosition, ofWord, nextOf, ofRecord}
 use Rattle.best.specs.Chosen.{limitsOf, pricesOf, bestOutcome}
@@ -37,12 +35,12 @@ digitsIn (servedWith ds) = ds
 -- A service's refusal, or its chain with the part numbers, largest first.
 unfoldable pub chainReply : Outcome → Reply
 chainReply (refused r) = refusedAs r
-chainReply (gives n c) = servedWith (chainDigits n (position n c) (map placeOf c))
+chainReply (gives n c) = servedWith (chainDigits n (position n c) (map partNumber c))
 
 -- The same with the chain's price.
 unfoldable pub pricedReply : Prices → Outcome → Reply
 pricedReply π (refused r) = refusedAs r
-pricedReply π (gives n c) = servedWith (pricedDigits n (position n c) (map placeOf c) (price π c))
+pricedReply π (gives n c) = servedWith (pricedDigits n (position n c) (map partNumber c) (price π c))
 
 -- ---- the reply to a line
 
@@ -75,10 +73,6 @@ unfoldable pub replyOf : List ℕ → List ℕ
 replyOf line = digitsIn (replyTo line)
 
 -- ---- what a call answers and leaves behind
-
--- Too little is lent: a scratch under 5,248, or fewer than 514 bytes for the reply.
-unfoldable pub littleLent : List ℕ → List ℕ → Bool
-littleLent scratch out = ltb (length scratch) scratchSize || ltb (length out) 514
 
 -- The answer for a reply: how many digits it has, or the number of the refusal.
 unfoldable pub repliedOf : Reply → Replied

@@ -19,7 +19,7 @@ use Rattle.chains.specs.BestOfAll.{bestOf}
 use Rattle.chains.specs.Bounds.{parts-bound}
 use Rattle.chains.specs.Counts.{count-0, count-at-most}
 use Rattle.chains.specs.PositionsOfChains.{at-position}
-use Rattle.parts.specs.Parts.{placeOf}
+use Rattle.parts.specs.Parts.{partNumber}
 use Rattle.words.specs.RecordLaws.{InTable, judged-sum}
 use Rattle.words.specs.WordLaws.{chain-judged}
 use Rattle.ranking.specs.Services.{Outcome, refused, gives, atPosition, ofWord, nextOf, ofRecord}
@@ -185,8 +185,8 @@ module _ (n position : ℕ) (numbers : List ℕ) (few : length numbers ≤ 64) w
       (simp (every-append, written-digits, written-chain))
 
 module _ (o : Outcome) (s : Sound o) where
-  few : (n : ℕ) (c : List Part) → o ≡ gives n c → length (map placeOf c) ≤ 64
-  few n c e = omega (arith, length-map c placeOf, parts-bound n 64 c (s .chain n c e) (s .fits n c e))
+  few : (n : ℕ) (c : List Part) → o ≡ gives n c → length (map partNumber c) ≤ 64
+  few n c e = omega (arith, length-map c partNumber, parts-bound n 64 c (s .chain n c e) (s .fits n c e))
 
   outcome-frame : Frame (digitsIn (chainReply o))
   unfolding chainReply digitsIn
@@ -194,7 +194,7 @@ module _ (o : Outcome) (s : Sound o) where
     where
       go : (x : Outcome) → o ≡ x → Frame (digitsIn (chainReply x))
       go (refused r) e = refusal-frame r
-      go (gives n c) e = chain-frame n (position n c) (map placeOf c) (few n c e)
+      go (gives n c) e = chain-frame n (position n c) (map partNumber c) (few n c e)
 
   outcome-priced : (π : Prices) → Frame (digitsIn (pricedReply π o))
   unfolding pricedReply digitsIn
@@ -202,7 +202,7 @@ module _ (o : Outcome) (s : Sound o) where
     where
       go : (x : Outcome) → o ≡ x → Frame (digitsIn (pricedReply π x))
       go (refused r) e = refusal-frame r
-      go (gives n c) e = priced-frame n (position n c) (map placeOf c) (few n c e) (price π c)
+      go (gives n c) e = priced-frame n (position n c) (map partNumber c) (few n c e) (price π c)
 
 served-frame : (k : Kind) (line : List ℕ) → Frame (digitsIn (served k line))
 unfolding served digitsIn endsWithChain
@@ -240,9 +240,9 @@ reply-unbroken line = digits-unbroken (replyOf line) (reply-frame line .digits)
 -- ---- what a chain's reply is read back as
 
 -- The part numbers of a chain of a number below 2^64.
-pub numbers-fit : (n : ℕ) (c : List Part) → ChainOf n c → n < 2 ^ 64 → Fitting 2 (map placeOf c)
+pub numbers-fit : (n : ℕ) (c : List Part) → ChainOf n c → n < 2 ^ 64 → Fitting 2 (map partNumber c)
 unfolding InTable
-numbers-fit n c h f = λ i l. omega (arith, judged-sum (map placeOf c) n .0 (chain-judged n c h f) .known i l)
+numbers-fit n c h f = λ i l. omega (arith, judged-sum (map partNumber c) n .0 (chain-judged n c h f) .known i l)
 
 -- Its position, and the one after it.
 count-low : (n : ℕ) → n < 2 ^ 64 → count n < 2 ^ 64
@@ -254,7 +254,7 @@ position-low n c h f = omega (arith, at-position n c h .0, count-low n f)
 
 -- Whatever follows, as the price does.
 pub reply-read : (n : ℕ) (c : List Part) (rest : List ℕ) → ChainOf n c → n < 2 ^ 64
-    → ChainRead n (position n c) (map placeOf c) (chainDigits n (position n c) (map placeOf c) ++ rest)
+    → ChainRead n (position n c) (map partNumber c) (chainDigits n (position n c) (map partNumber c) ++ rest)
 reply-read n c rest h f =
-    chain-read n (position n c) (map placeOf c) rest f (omega (arith, position-low n c h f))
-    (omega (arith, length-map c placeOf, parts-bound n 64 c h f)) (numbers-fit n c h f)
+    chain-read n (position n c) (map partNumber c) rest f (omega (arith, position-low n c h f))
+    (omega (arith, length-map c partNumber, parts-bound n 64 c h f)) (numbers-fit n c h f)

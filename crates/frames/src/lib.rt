@@ -5,8 +5,8 @@ mod tell;
 
 use lines::Shape;
 ghost use mathlib.Core.Path.{_≡_};
-ghost use Rattle.frames.specs.Replies.{littleLent, answerTo, outLeft};
-ghost use Rattle.grid.specs.Grid.{scratchLeft};
+ghost use Rattle.lent.specs.Lent.{tooLittle, scratchLeft};
+ghost use Rattle.frames.specs.Replies.{answerTo, outLeft};
 
 // What a reply answers: how many digits it has, or the number of the refusal.
 pub enum Replied {
@@ -18,13 +18,13 @@ pub enum Replied {
 // the scratch gets zeros up to 5,248, and both keep what stands after. Refuses with 1 first, where less is lent and nothing is
 // touched; then a line that is no frame, with 2, 3 or 4, and then with what the line's service refuses.
 pub fn reply(line: &[u8], scratch: &mut [u64], out: &mut [u8]) -> Replied
-    ensures answer { λ r. ⌜ r ≡ answerTo (littleLent (now (scratch .entry)) (now (out .entry))) (now (line .entry)) ⌝ }
+    ensures answer { λ r. ⌜ r ≡ answerTo (tooLittle 514 (now (scratch .entry)) (now (out .entry))) (now (line .entry)) ⌝ }
     ensures out { λ _. ⌜ now (out .exit)
-        ≡ outLeft (littleLent (now (scratch .entry)) (now (out .entry))) (now (line .entry)) (now (out .entry)) ⌝ }
+        ≡ outLeft (tooLittle 514 (now (scratch .entry)) (now (out .entry))) (now (line .entry)) (now (out .entry)) ⌝ }
     ensures scratch { λ _. ⌜ now (scratch .exit)
-        ≡ scratchLeft (littleLent (now (scratch .entry)) (now (out .entry))) (now (scratch .entry)) ⌝ }
+        ≡ scratchLeft (tooLittle 514 (now (scratch .entry)) (now (out .entry))) (now (scratch .entry)) ⌝ }
 {
-    if scratch.len() < 5248 {
+    if scratch.len() < lent::SCRATCH {
         return Replied::Refused(1);
     }
     if out.len() < 514 {

@@ -5,27 +5,27 @@ use best::Chosen;
 use counting::Counted;
 use ranking::Placed;
 ghost use mathlib.Core.Path.{_≡_};
-ghost use Rattle.ranking.specs.Services.{lent, tooLittle, placesLeft};
+ghost use Rattle.lent.specs.Lent.{tooLittle, Enough, scratchLeft};
+ghost use Rattle.ranking.specs.Services.{lent, placesLeft};
 ghost use Rattle.best.specs.Chosen.{bestOutcome, chosenOf};
-ghost use Rattle.frames.specs.Calls.{EnoughLent, Handled, FitAs};
+ghost use Rattle.frames.specs.Calls.{Handled, FitAs};
 ghost use Rattle.frames.specs.Replies.{refusedAs, limitsIn, pricesIn, served, replyTo};
 ghost use Rattle.lines.specs.Kinds.{counting, choosing, placing, recording, wording, following};
 ghost use Rattle.lines.specs.LineLaws.{Fit};
-ghost use Rattle.grid.specs.Grid.{scratchLeft};
 
 // A line that is refused: the scratch is zeroed as on success.
 pub fn serve_refusal(number: u8, scratch: &mut [u64], out: &mut [u8]) -> Replied
-    requires { ⌜ EnoughLent (now scratch) (now out) ⌝ }
+    requires { ⌜ Enough 514 (now scratch) (now out) ⌝ }
     ensures { λ r. ⌜ Handled (refusedAs number) r
         (now (scratch .entry)) (now (scratch .exit)) (now (out .entry)) (now (out .exit)) ⌝ }
 {
-    lent::clear_u64(&mut scratch[0..5248]);
+    lent::clear_u64(&mut scratch[0..lent::SCRATCH]);
     tell::tell_refusal(out, number)
 }
 
 // 01: the count.
 pub fn serve_count(line: &[u8], scratch: &mut [u64], out: &mut [u8]) -> Replied
-    requires { ⌜ EnoughLent (now scratch) (now out) ⌝ }
+    requires { ⌜ Enough 514 (now scratch) (now out) ⌝ }
     ensures { λ r. ⌜ Handled (served counting (now (line .entry))) r
         (now (scratch .entry)) (now (scratch .exit)) (now (out .entry)) (now (out .exit)) ⌝ }
 {
@@ -44,7 +44,7 @@ fn best_in(n: u64, line: &[u8], scratch: &mut [u64], places: &mut [u16]) -> Chos
         ≡ placesLeft
         (lent (now (scratch .entry)) (now (places .entry)) (bestOutcome n (limitsIn (now (line .entry))) (pricesIn (now (line .entry)))))
         (now (places .entry)) ⌝ }
-    ensures { λ _. ⌜ now (scratch .exit) ≡ scratchLeft (tooLittle (now (scratch .entry)) (now (places .entry))) (now (scratch .entry)) ⌝ }
+    ensures { λ _. ⌜ now (scratch .exit) ≡ scratchLeft (tooLittle 64 (now (scratch .entry)) (now (places .entry))) (now (scratch .entry)) ⌝ }
 {
     let parts_limit = lines::byte_of(line, 9);
     let a_limit = lines::byte_of(line, 10);
@@ -57,7 +57,7 @@ fn best_in(n: u64, line: &[u8], scratch: &mut [u64], places: &mut [u16]) -> Chos
 
 // 02: the best chain.
 pub fn serve_best(line: &[u8], scratch: &mut [u64], out: &mut [u8]) -> Replied
-    requires { ⌜ EnoughLent (now scratch) (now out) ⌝ }
+    requires { ⌜ Enough 514 (now scratch) (now out) ⌝ }
     ensures { λ r. ⌜ Handled (served choosing (now (line .entry))) r
         (now (scratch .entry)) (now (scratch .exit)) (now (out .entry)) (now (out .exit)) ⌝ }
 {
@@ -74,7 +74,7 @@ pub fn serve_best(line: &[u8], scratch: &mut [u64], out: &mut [u8]) -> Replied
 
 // 03: the chain at a position.
 pub fn serve_at(line: &[u8], scratch: &mut [u64], out: &mut [u8]) -> Replied
-    requires { ⌜ EnoughLent (now scratch) (now out) ⌝ }
+    requires { ⌜ Enough 514 (now scratch) (now out) ⌝ }
     ensures { λ r. ⌜ Handled (served placing (now (line .entry))) r
         (now (scratch .entry)) (now (scratch .exit)) (now (out .entry)) (now (out .exit)) ⌝ }
 {
@@ -90,7 +90,7 @@ pub fn serve_at(line: &[u8], scratch: &mut [u64], out: &mut [u8]) -> Replied
 
 // 04: a burned record. The reply repeats its part numbers.
 pub fn serve_record(line: &[u8], scratch: &mut [u64], out: &mut [u8]) -> Replied
-    requires { ⌜ EnoughLent (now scratch) (now out) × Fit (now line) recording ⌝ }
+    requires { ⌜ Enough 514 (now scratch) (now out) × Fit (now line) recording ⌝ }
     ensures { λ r. ⌜ Handled (served recording (now (line .entry))) r
         (now (scratch .entry)) (now (scratch .exit)) (now (out .entry)) (now (out .exit)) ⌝ }
 {
@@ -104,7 +104,7 @@ pub fn serve_record(line: &[u8], scratch: &mut [u64], out: &mut [u8]) -> Replied
 
 // 05: a word.
 pub fn serve_word(line: &[u8], scratch: &mut [u64], out: &mut [u8]) -> Replied
-    requires { ⌜ EnoughLent (now scratch) (now out) × Fit (now line) wording ⌝ }
+    requires { ⌜ Enough 514 (now scratch) (now out) × Fit (now line) wording ⌝ }
     ensures { λ r. ⌜ Handled (served wording (now (line .entry))) r
         (now (scratch .entry)) (now (scratch .exit)) (now (out .entry)) (now (out .exit)) ⌝ }
 {
@@ -117,7 +117,7 @@ pub fn serve_word(line: &[u8], scratch: &mut [u64], out: &mut [u8]) -> Replied
 
 // 06: the chain after a word's.
 pub fn serve_next(line: &[u8], scratch: &mut [u64], out: &mut [u8]) -> Replied
-    requires { ⌜ EnoughLent (now scratch) (now out) × Fit (now line) following ⌝ }
+    requires { ⌜ Enough 514 (now scratch) (now out) × Fit (now line) following ⌝ }
     ensures { λ r. ⌜ Handled (served following (now (line .entry))) r
         (now (scratch .entry)) (now (scratch .exit)) (now (out .entry)) (now (out .exit)) ⌝ }
 {
@@ -130,7 +130,7 @@ pub fn serve_next(line: &[u8], scratch: &mut [u64], out: &mut [u8]) -> Replied
 
 // A fit line, by the byte of its kind.
 pub fn serve_kind(kind: u8, line: &[u8], scratch: &mut [u64], out: &mut [u8]) -> Replied
-    requires { ⌜ EnoughLent (now scratch) (now out) × FitAs kind (now line) ⌝ }
+    requires { ⌜ Enough 514 (now scratch) (now out) × FitAs kind (now line) ⌝ }
     ensures { λ r. ⌜ Handled (replyTo (now (line .entry))) r
         (now (scratch .entry)) (now (scratch .exit)) (now (out .entry)) (now (out .exit)) ⌝ }
 {

@@ -15,6 +15,7 @@ use lib.Pow.{pow-add}
 use lib.Seq.{getD-set-same, getD-set-other, drop-set-lt, getD-drop, drop-drop}
 use borrow.Rule.Slice.PartMut.{midOf, putMid, same-len-mid}
 use Rattle.lent.specs.Parts.{part-lent, part-back, kept-behind}
+use Rattle.lent.specs.Lent.{scratchSize}
 use Rattle.grid.specs.Grid.{Meaning, Row, Table, RowAsked, RowFilled, RowsAsked, RowsFilled}
 use Rattle.grid.specs.Rests.{third-of-row, row-above, below-last-row, rest-dead, restAt}
 
@@ -143,7 +144,7 @@ module _ (G : Meaning) where
         record {
           rows = record { row = λ i p q. ⊎-elim (λ (e : b ≡ i). here i e) (λ (lt : b < i). there i lt q) (eq-or-lt-of-le p) };
           same = same-len-mid (128 * b) (length l - 128 * b) l part (g .same) ∙ f .same;
-          later = kept-behind (128 * b) l within 128 5248 part (g .later) (omega arith) ∙ f .later;
+          later = kept-behind (128 * b) l within 128 scratchSize part (g .later) (omega arith) ∙ f .later;
         }
       where
         l′ : List ℕ

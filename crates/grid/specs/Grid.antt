@@ -1,25 +1,16 @@
 -- A table over the points (a, b) with a below 64 and b below 41, two numbers a point, one for each reader: the scratch of document
--- 01, 5,248 numbers. Row b stands at 128 × b; in it, column a at 2 × a, the number of the reader at the start and after b has risen
+-- 01. Row b stands at 128 × b; in it, column a at 2 × a, the number of the reader at the start and after b has risen
 -- first, that of the reader after a has risen second.
 --
 -- What a cell means is a function of its point, its reader and its rest. The rest at (a, b) is n / 3^b / 2^a.
 -- Definitions only: rows and tables that are right, then what the calls that fill them ask and leave. The laws by which a row and a
 -- table are filled and read are in Fill, those of rests in Rests, those of their remainders by three in Masks.
 use mathlib.Core.Path.{_≡_}
-use mathlib.Core.Bool.{Bool, true, false, cond}
-use mathlib.Core.List.{List, []}
+use mathlib.Core.Bool.{Bool, true, false}
+use mathlib.Core.List.{List}
 use Prim.Native.Nat.{ℕ, suc, _+_, _-_, _*_, _^_, _/_, _≤_, _<_}
 use lib.ListN.{length, getD, drop}
-use Rattle.lent.specs.Lent.{filled}
-
--- The size of the scratch: 41 rows of 64 columns of 2 numbers.
-abbrev pub scratchSize : ℕ
-scratchSize = 5248
-
--- What a service that is lent a scratch leaves there: nothing is touched where too little is lent, else the first 5,248 are zero and
--- the rest is untouched.
-unfoldable pub scratchLeft : Bool → List ℕ → List ℕ
-scratchLeft little entry = cond little entry (filled scratchSize [] entry)
+use Rattle.lent.specs.Lent.{scratchSize}
 
 -- What a cell holds: of a, b, the reader and the rest.
 abbrev pub Meaning : Type 0

@@ -166,6 +166,6 @@ pub fn answer_input() {
     let mut block = io::large_buffer();
     let mut out = io::large_buffer();
     let mut kept = [0u8; 515];
-    let mut scratch = [0u64; 5248];
+    let mut scratch = [0u64; lent::SCRATCH];
     answer_all(&mut block, &mut kept, &mut scratch, &mut out);
 }

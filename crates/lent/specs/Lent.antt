@@ -1,15 +1,15 @@
--- What a service leaves in memory that it was lent: document 01, 'Services and memory'. The scratch, the places and the reply all
+-- What a service asks to be lent and what it leaves there: document 01, 'Services and memory'. The scratch, the places and the reply
 -- follow one rule: what the service gives, then zeros up to the size that it asks for, and everything later as it was.
 --
--- In this order: zeros, and the rule; the length is kept; the rule where a part of that size was zeroed,
--- and where what is given was put over the zeros.
-use mathlib.Core.Path.{_≡_, ap}
-use mathlib.Core.List.{List, [], _++_, append-assoc}
-use Prim.Native.Nat.{ℕ, _+_, _-_, _≤_}
-use native.Mathlib.Omega.{arith}
-use lib.ListN.{length, take, drop, replicate, length-append, length-drop, length-replicate, replicate-append-replicate}
-use lib.Seq.{length-take-le, take-append-seam, drop-at}
-use borrow.Rule.Slice.PartMut.{midOf, putMid}
+-- In this order: the rule; the size of the scratch; whether too little is lent; the scratch at exit.
+-- Definitions only. The laws are in LentLaws.
+use mathlib.Core.Bool.{Bool, cond, _||_}
+use mathlib.Core.List.{List, [], _++_}
+use Prim.Native.Nat.{ℕ, _-_, _≤_}
+use lib.Dec.{ltb}
+use lib.ListN.{length, drop, replicate}
+
+-- ---- the rule
 
 -- Never computed at a long length: opened only in laws over a variable.
 unfoldable pub zeros : ℕ → List ℕ
@@ -19,36 +19,28 @@ zeros k = replicate k 0
 unfoldable pub filled : ℕ → List ℕ → List ℕ → List ℕ
 filled size xs entry = xs ++ (zeros (size - length xs) ++ drop size entry)
 
-pub length-zeros : (k : ℕ) → length (zeros k) ≡ k
-unfolding zeros
-length-zeros k = length-replicate k 0
+-- ---- what must be lent
 
--- Memory keeps its length.
-pub length-filled : (size : ℕ) (xs entry : List ℕ) → length xs ≤ size → size ≤ length entry
-    → length (filled size xs entry) ≡ length entry
-unfolding filled
-length-filled size xs entry h k = simp (length-append, length-zeros, length-drop) (omega arith)
+-- How many numbers a scratch must have: 41 rows of 64 columns of 2 numbers. The code says it once too, as `SCRATCH`.
+abbrev pub scratchSize : ℕ
+scratchSize = 5248
 
--- At the end the first `size` of the memory l are lent on and come back as zeros; behind them l is as it was at entry.
-pub cleared : (size : ℕ) (entry l ys : List ℕ) → size ≤ length l → drop size l ≡ drop size entry
-    → ys ≡ zeros (length (midOf 0 size l)) → putMid 0 size l ys ≡ filled size [] entry
-unfolding filled
-cleared size entry l ys h e z =
-    let k : length (midOf 0 size l) ≡ size - 0 = omega (arith, length-take-le size l h) in
-    rw (z, k, e)
+-- The scratch is too small.
+unfoldable pub littleScratch : List ℕ → Bool
+littleScratch scratch = ltb (length scratch) scratchSize
 
--- What is given, over the first of zeroed memory.
-pub over-zeros : (size : ℕ) (xs entry : List ℕ) → length xs ≤ size
-    → xs ++ drop (length xs) (filled size [] entry) ≡ filled size xs entry
-unfolding filled zeros
-over-zeros size xs entry h =
-    let k = length xs in
-    let e : size - 0 ≡ k + (size - k) = omega arith in
-    ap (λ (l : List ℕ). xs ++ l)
-    (rw (e, ← replicate-append-replicate {A = ℕ} k (size - k) 0, append-assoc)
-    (drop-at (replicate k 0) (replicate (size - k) 0 ++ drop size entry) k (length-replicate k 0)))
+-- Too little is lent to a service that gives up to `room` part numbers, letters or digits: the scratch is too small, or there are
+-- fewer places than that.
+unfoldable pub tooLittle : ℕ → List ℕ → List ℕ → Bool
+tooLittle room scratch places = littleScratch scratch || ltb (length places) room
 
--- What is given stands first.
-pub filled-first : (size : ℕ) (xs entry : List ℕ) → take (length xs) (filled size xs entry) ≡ xs
-unfolding filled
-filled-first size xs entry = take-append-seam xs _
+-- Enough is lent to such a service.
+pub record Enough (size : ℕ) (scratch places : List ℕ) : Type 0 where
+  pub numbers : scratchSize ≤ length scratch
+  pub room : size ≤ length places
+
+-- ---- the scratch at exit
+
+-- Untouched where too little is lent, else its first numbers are zero and the rest is untouched.
+unfoldable pub scratchLeft : Bool → List ℕ → List ℕ
+scratchLeft little entry = cond little entry (filled scratchSize [] entry)

@@ -1,3 +1,4 @@
--- What a service leaves in memory that it was lent (Lent), and memory that is lent on in part (Parts).
+-- What a service asks to be lent and what it leaves there (Lent, its laws in LentLaws), and memory that is lent on in part (Parts).
 pub mod Lent
+pub mod LentLaws
 pub mod Parts

@@ -3,6 +3,9 @@ ghost use mathlib.Core.Path.{_≡_};
 ghost use lib.ListN.{length};
 ghost use Rattle.lent.specs.Lent.{zeros};
 
+// How many numbers the scratch of a service must have (`scratchSize` in specs/Lent.antt).
+pub const SCRATCH: usize = 5248;
+
 // Zeroes all of a lent part.
 pub fn clear_u64(part: &mut [u64])
     ensures { λ _. ⌜ now (part .exit) ≡ zeros (length (now (part .entry))) ⌝ }

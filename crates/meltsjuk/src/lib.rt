@@ -6,23 +6,23 @@ use counting::Counted;
 use frames::Replied;
 ghost use mathlib.Core.Path.{_≡_};
 ghost use lib.ListN.{length};
-ghost use Rattle.ranking.specs.Services.{tooLittle, placesLeft};
-ghost use Rattle.counting.specs.TableCount.{countedOf, scratchAfter};
+ghost use Rattle.lent.specs.Lent.{tooLittle, scratchLeft, littleScratch};
+ghost use Rattle.ranking.specs.Services.{placesLeft};
+ghost use Rattle.counting.specs.TableCount.{countedOf};
 ghost use Rattle.best.specs.Chosen.{limitsOf, pricesOf};
-ghost use Rattle.frames.specs.Replies.{littleLent, outLeft};
+ghost use Rattle.frames.specs.Replies.{outLeft};
 ghost use Rattle.meltsjuk.specs.Answers.{digitsLeft, countStatus, countOr};
 ghost use Rattle.meltsjuk.specs.Answers.{bestAsked, bestStatus, positionOr, partsOr, priceOr};
-ghost use Rattle.grid.specs.Grid.{scratchLeft};
 
 // Replying to one line, without its byte 10, as `frames::reply` does. Answers how many digits of the reply stand in `out`, two
 // where the line is refused; 0 where too little is lent, and nothing is touched.
 #[no_mangle]
 pub extern "C" fn meltsjuk_reply(line: &[u8], scratch: &mut [u64], out: &mut [u8]) -> u64
-    ensures answer { λ r. ⌜ r ≡ digitsLeft (littleLent (now (scratch .entry)) (now (out .entry))) (now (line .entry)) ⌝ }
+    ensures answer { λ r. ⌜ r ≡ digitsLeft (tooLittle 514 (now (scratch .entry)) (now (out .entry))) (now (line .entry)) ⌝ }
     ensures out { λ _. ⌜ now (out .exit)
-        ≡ outLeft (littleLent (now (scratch .entry)) (now (out .entry))) (now (line .entry)) (now (out .entry)) ⌝ }
+        ≡ outLeft (tooLittle 514 (now (scratch .entry)) (now (out .entry))) (now (line .entry)) (now (out .entry)) ⌝ }
     ensures scratch { λ _. ⌜ now (scratch .exit)
-        ≡ scratchLeft (littleLent (now (scratch .entry)) (now (out .entry))) (now (scratch .entry)) ⌝ }
+        ≡ scratchLeft (tooLittle 514 (now (scratch .entry)) (now (out .entry))) (now (scratch .entry)) ⌝ }
 {
     match frames::reply(line, scratch, out) {
         Replied::Digits(digits) => digits,
@@ -33,9 +33,9 @@ pub extern "C" fn meltsjuk_reply(line: &[u8], scratch: &mut [u64], out: &mut [u8
 // The count of n, as `counting::table_count` has it. Answers 0 with the count put in `count`, or 1, and `count` is as it was.
 #[no_mangle]
 pub extern "C" fn meltsjuk_count(n: u64, scratch: &mut [u64], count: &mut u64) -> u8
-    ensures answer { λ r. ⌜ r ≡ countStatus (countedOf n (length (now (scratch .entry)))) ⌝ }
-    ensures count { λ _. ⌜ now (count .exit) ≡ countOr (countedOf n (length (now (scratch .entry)))) (now (count .entry)) ⌝ }
-    ensures scratch { λ _. ⌜ now (scratch .exit) ≡ scratchAfter (now (scratch .entry)) ⌝ }
+    ensures answer { λ r. ⌜ r ≡ countStatus (countedOf n (now (scratch .entry))) ⌝ }
+    ensures count { λ _. ⌜ now (count .exit) ≡ countOr (countedOf n (now (scratch .entry))) (now (count .entry)) ⌝ }
+    ensures scratch { λ _. ⌜ now (scratch .exit) ≡ scratchLeft (littleScratch (now (scratch .entry))) (now (scratch .entry)) ⌝ }
 {
     match counting::table_count(n, scratch) {
         Counted::Count(counted) => {
@@ -84,7 +84,7 @@ pub extern "C" fn meltsjuk_best(
         (bestAsked (now (scratch .entry)) (now (places .entry)) n (limitsOf «parts_limit» «a_limit» «b_limit») (pricesOf d t s))
         (now (places .entry)) ⌝ }
     ensures scratch { λ _. ⌜ now (scratch .exit)
-        ≡ scratchLeft (tooLittle (now (scratch .entry)) (now (places .entry))) (now (scratch .entry)) ⌝ }
+        ≡ scratchLeft (tooLittle 64 (now (scratch .entry)) (now (places .entry))) (now (scratch .entry)) ⌝ }
 {
     match best::best_chain(n, parts_limit, a_limit, b_limit, d, t, s, scratch, places) {
         Chosen::Chain {

@@ -13,7 +13,7 @@ use borrow.Author.Tests.{lt-ltb, le-ltb}
 use Rattle.chains.specs.Chains.{Part, value}
 use Rattle.chains.specs.Divides.{value-pos, value-unique}
 use Rattle.parts.specs.Table.{rows, joined, parts}
-use Rattle.parts.specs.Parts.{limit, times, partAt, placeOf, numberOf}
+use Rattle.parts.specs.Parts.{limit, times, partAt, partNumber, numberOf}
 use Rattle.parts.specs.declared.Number.the-variants.{At, None}
 use Rattle.parts.specs.Tests.{each, at-each, below, at-below, ascending, ascending-pair, smaller-at, in-32s, look}
 use Rattle.parts.specs.Tests.{look-joined}
@@ -122,9 +122,9 @@ module _ (p : Part) (across : p .a < 64) (upward : p .b < 41) where
 -- ---- from a part to its number
 
 -- The place of an entry's part.
-place-of-entry : (i : ℕ) → i < 1344 → (p : Part) → getD parts i 0 ≡ value p → placeOf p ≡ i
-unfolding placeOf
-place-of-entry i h p e = rw (← e) (smaller-at 0 parts parts-ascending i (omega (arith, parts-count)))
+number-of-entry : (i : ℕ) → i < 1344 → (p : Part) → getD parts i 0 ≡ value p → partNumber p ≡ i
+unfolding partNumber
+number-of-entry i h p e = rw (← e) (smaller-at 0 parts parts-ascending i (omega (arith, parts-count)))
 
 -- The table has each part below 2^64 at its rank.
 at-rank : (p : Part) → value p < limit → (rank (p .a) (p .b) < 1344) × (getD parts (rank (p .a) (p .b)) 0 ≡ value p)
@@ -142,28 +142,28 @@ at-rank p h = go (inside (p .a) (p .b)) refl
         )
     go false e = absurd (omega (arith, outside-over p (part-bounds p h .0) (part-bounds p h .1) e))
 
-pub place-rank : (p : Part) → value p < limit → placeOf p ≡ rank (p .a) (p .b)
-place-rank p h = place-of-entry (rank (p .a) (p .b)) (at-rank p h .0) p (at-rank p h .1)
+pub number-rank : (p : Part) → value p < limit → partNumber p ≡ rank (p .a) (p .b)
+number-rank p h = number-of-entry (rank (p .a) (p .b)) (at-rank p h .0) p (at-rank p h .1)
 
 -- Every part below 2^64 is in the table, at its place.
-pub parts-complete : (p : Part) → value p < limit → (placeOf p < 1344) × (getD parts (placeOf p) 0 ≡ value p)
-parts-complete p h = rw (place-rank p h) (at-rank p h)
+pub parts-complete : (p : Part) → value p < limit → (partNumber p < 1344) × (getD parts (partNumber p) 0 ≡ value p)
+parts-complete p h = rw (number-rank p h) (at-rank p h)
 
 -- The answer of `number_of`.
 pub number-none : (p : Part) → (value p < limit → ⊥) → numberOf p ≡ None
 unfolding numberOf
 number-none p h = rw (le-ltb (value p) limit (le-of-suc-le-suc (lt-of-not-le h)))
 
-pub number-at : (p : Part) → value p < limit → numberOf p ≡ At (placeOf p)
+pub number-at : (p : Part) → value p < limit → numberOf p ≡ At (partNumber p)
 unfolding numberOf
 number-at p h = rw (lt-ltb (value p) limit h)
 
 -- ---- numbers and parts lead to each other
 
-pub place-part : (i : ℕ) → i < 1344 → placeOf (partAt i) ≡ i
-place-part i h = place-of-entry i h (partAt i) (sym (part-value i h))
+pub number-of-part : (i : ℕ) → i < 1344 → partNumber (partAt i) ≡ i
+number-of-part i h = number-of-entry i h (partAt i) (sym (part-value i h))
 
-pub part-place : (p : Part) → value p < limit → partAt (placeOf p) ≡ p
-part-place p h =
+pub part-of-number : (p : Part) → value p < limit → partAt (partNumber p) ≡ p
+part-of-number p h =
     let there = parts-complete p h in
-    value-unique (partAt (placeOf p)) p (part-value (placeOf p) (there .0) ∙ there .1)
+    value-unique (partAt (partNumber p)) p (part-value (partNumber p) (there .0) ∙ there .1)

@@ -38,12 +38,12 @@ smaller v [] = 0
 smaller v (x ∷ xs) = one-if (ltb x v) + smaller v xs
 
 -- A part's place in the table: how many entries are smaller.
-unfoldable pub placeOf : Part → ℕ
-placeOf p = smaller (value p) parts
+unfoldable pub partNumber : Part → ℕ
+partNumber p = smaller (value p) parts
 
 -- The answer of `number_of`: the part's number, or none where 2^a × 3^b is 2^64 or more.
 unfoldable pub numberOf : Part → Number
-numberOf p = cond (ltb (value p) limit) (At (placeOf p)) None
+numberOf p = cond (ltb (value p) limit) (At (partNumber p)) None
 
 -- ---- sums
 

@@ -10,6 +10,8 @@ use native.Mathlib.Omega.{arith}
 use lib.Dec.{T, ltb}
 use lib.ListN.{length, take}
 use borrow.Author.Tests.{lt-ltb, le-ltb}
+use Rattle.counting.specs.TableLaws.{asked-still-room}
+use Rattle.lent.specs.LentLaws.{filled-first, scratch-little, scratch-enough, enough}
 use Rattle.chains.specs.Words.{Word, wordOf, reads}
 use Rattle.chains.specs.Listing.{listOf, count, countBefore, position, chainAt}
 use Rattle.chains.specs.Weight.{weight}
@@ -18,8 +20,7 @@ use Rattle.chains.specs.PositionsOfChains.{chainAt-chain, word-chainAt, positio
 use Rattle.chains.specs.RoundTrip.{word-reads}
 use Rattle.chains.specs.Bounds.{word-bound}
 use Rattle.chains.specs.Chains.{Part}
-use Rattle.lent.specs.Lent.{filled, filled-first}
-use Rattle.grid.specs.Grid.{scratchSize, scratchLeft}
+use Rattle.lent.specs.Lent.{filled, scratchSize, littleScratch, tooLittle, scratchLeft}
 use Rattle.words.specs.Answers.{weighedOf}
 use Rattle.words.specs.declared.Weighed.the-variants.{Number, Over}
 use Rattle.words.specs.Records.{recordParts, judgedOf}
@@ -30,8 +31,8 @@ use Rattle.words.specs.declared.Judged.the-variants as judged
 use Rattle.words.specs.declared.Written.the-variants as written
 use Rattle.words.specs.declared.Parted.{Parted}
 use Rattle.words.specs.declared.Parted.the-variants as parted
-use Rattle.counting.specs.TableCount.{TableAsked, asked-still-room}
-use Rattle.ranking.specs.Services.{Outcome, refused, gives, lentScratch, tooLittle, lent}
+use Rattle.counting.specs.TableCount.{TableAsked}
+use Rattle.ranking.specs.Services.{Outcome, refused, gives, lentScratch, lent}
 use Rattle.ranking.specs.Services.{placedOf, answerOf, placesLeft, judgedAs, ofRecord, ofWord, standing, after, nextOf}
 use Rattle.ranking.specs.Outcomes.{standing-below, of-chain, of-gives, of-weighed, of-over, position-word}
 use Rattle.ranking.specs.Walks.{wordAt, WordFound, Tabled}
@@ -42,16 +43,16 @@ use Rattle.ranking.specs.declared.Placed.the-variants as placed
 
 -- ---- a scratch too small, and one that is not
 
-pub scratch-little : (s : List ℕ) (o : Outcome) → length s < scratchSize
-    → (placed.Refused 1 ≡ placedOf (lentScratch s o)) × (s ≡ scratchLeft (ltb (length s) scratchSize) s)
+pub scratch-refused : (s : List ℕ) (o : Outcome) → length s < scratchSize
+    → (placed.Refused 1 ≡ placedOf (lentScratch s o)) × (s ≡ scratchLeft (littleScratch s) s)
 unfolding placedOf lentScratch scratchLeft
-scratch-little s o h = rw (lt-ltb (length s) scratchSize h) (refl, refl)
+scratch-refused s o h = rw (scratch-little s h) (refl, refl)
 
 pub scratch-served : (s t : List ℕ) (o : Outcome) (r : placed.the-data) → scratchSize ≤ length s
     → r ≡ placedOf o → t ≡ filled scratchSize [] s
-    → (r ≡ placedOf (lentScratch s o)) × (t ≡ scratchLeft (ltb (length s) scratchSize) s)
+    → (r ≡ placedOf (lentScratch s o)) × (t ≡ scratchLeft (littleScratch s) s)
 unfolding lentScratch scratchLeft
-scratch-served s t o r h e f = rw (le-ltb (length s) scratchSize h) (e, f)
+scratch-served s t o r h e f = rw (scratch-enough s h) (e, f)
 
 -- ---- the scratch with a table
 
@@ -66,9 +67,9 @@ module _ {n : ℕ} {entry l : List ℕ} (f : TableAsked n entry l) (h : scratchS
 
 -- ---- a record
 
-served : (l : List ℕ) (room : ℕ) → 64 ≤ room → writtenOf l room ≡ lettersOf l (judgedOf l)
+record-enough : (l : List ℕ) (room : ℕ) → 64 ≤ room → writtenOf l room ≡ lettersOf l (judgedOf l)
 unfolding writtenOf
-served l room h = rw (le-ltb room 64 h, writtenOf)
+record-enough l room h = rw (le-ltb room 64 h, writtenOf)
 
 -- What is written of a record is its chain's word, and it is at most 64 letters.
 pub record RecordWritten (l : List ℕ) (k : ℕ) (letters : Word) : Type 0 where
@@ -91,7 +92,7 @@ record-written l entry letters k h e f = go (judgedOf l) refl
     go : (j : Judged) → judgedOf l ≡ j → RecordWritten l k letters
     go (judged.Sum n) g =
         let b = judged-sum l n .0 g in
-        let size : k ≡ length w = cc (e, served l (length entry) h, ap (lettersOf l) g) in
+        let size : k ≡ length w = cc (e, record-enough l (length entry) h, ap (lettersOf l) g) in
         let word : take (k - 0) letters ≡ w = rw (sub-zero, f, e, size) (filled-first 64 w entry) in
         record {
           room = omega (arith, word-bound n 64 (recordParts l) (b .chain) (b .fits));
@@ -99,7 +100,7 @@ record-written l entry letters k h e f = go (judgedOf l) refl
           same = rw (word, of-chain n (recordParts l) (b .chain) (b .fits), g);
         }
     go (judged.Refused r) g =
-        let z : _≡_ {A = ℕ} 0 1 = cc (e, served l (length entry) h, ap (lettersOf l) g) in
+        let z : _≡_ {A = ℕ} 0 1 = cc (e, record-enough l (length entry) h, ap (lettersOf l) g) in
         absurd (omega arith)
 
 -- A record that is refused.
@@ -109,10 +110,10 @@ record-refused l room r h e = go (judgedOf l) refl
   where
     go : (j : Judged) → judgedOf l ≡ j → placed.Refused r ≡ placedOf (ofRecord l)
     go (judged.Sum n) g =
-        let z : _≡_ {A = ℕ} 0 1 = cc (e, served l room h, ap (lettersOf l) g) in
+        let z : _≡_ {A = ℕ} 0 1 = cc (e, record-enough l room h, ap (lettersOf l) g) in
         absurd (omega arith)
     go (judged.Refused x) g =
-        let same : x ≡ r = cc (e, served l room h, ap (lettersOf l) g) in
+        let same : x ≡ r = cc (e, record-enough l room h, ap (lettersOf l) g) in
         rw (g, same)
 
 -- ---- a word
@@ -192,24 +193,16 @@ word-over w h e = rw (of-over w h e)
 
 -- ---- too little is lent to a service with places, and enough
 
-pub little-places : (s p : List ℕ) → length p < 64 → tooLittle s p ≡ true
-unfolding tooLittle
-little-places s p h = rw (lt-ltb (length p) 64 h, or-true)
-
-pub little-scratch : (s p : List ℕ) → length s < scratchSize → tooLittle s p ≡ true
-unfolding tooLittle
-little-scratch s p h = rw (lt-ltb (length s) scratchSize h)
-
-pub little : (s p : List ℕ) (o : Outcome) → tooLittle s p ≡ true
-    → (found.Refused 1 ≡ answerOf (lent s p o)) × ((p ≡ placesLeft (lent s p o) p) × (s ≡ scratchLeft (tooLittle s p) s))
+pub little : (s p : List ℕ) (o : Outcome) → tooLittle 64 s p ≡ true
+    → (found.Refused 1 ≡ answerOf (lent s p o)) × ((p ≡ placesLeft (lent s p o) p) × (s ≡ scratchLeft (tooLittle 64 s p) s))
 unfolding answerOf lent placesLeft scratchLeft
 little s p o e = rw e (refl, (refl, refl))
 
-pub enough : (s p s′ p′ : List ℕ) (o : Outcome) (r : Found) → scratchSize ≤ length s → 64 ≤ length p
+pub served : (s p s′ p′ : List ℕ) (o : Outcome) (r : Found) → scratchSize ≤ length s → 64 ≤ length p
     → r ≡ answerOf o → p′ ≡ placesLeft o p → s′ ≡ filled scratchSize [] s
-    → (r ≡ answerOf (lent s p o)) × ((p′ ≡ placesLeft (lent s p o) p) × (s′ ≡ scratchLeft (tooLittle s p) s))
-unfolding lent tooLittle scratchLeft
-enough s p s′ p′ o r h k e f g = rw (le-ltb (length s) scratchSize h, le-ltb (length p) 64 k) (e, (f, g))
+    → (r ≡ answerOf (lent s p o)) × ((p′ ≡ placesLeft (lent s p o) p) × (s′ ≡ scratchLeft (tooLittle 64 s p) s))
+unfolding lent scratchLeft
+served s p s′ p′ o r h k e f g = rw (enough 64 s p (record { numbers = h; room = k })) (e, (f, g))
 
 -- A refusal, which leaves the places as they were.
 pub refused-found : (o : Outcome) (r : ℕ) (p : List ℕ) (x : Found) → o ≡ refused r → x ≡ answerOf (refused r)
@@ -217,12 +210,12 @@ pub refused-found : (o : Outcome) (r : ℕ) (p : List ℕ) (x : Found) → o ≡
 unfolding placesLeft
 refused-found o r p x e f = rw e (f, refl)
 
-pub enough-refused : (s p s′ : List ℕ) (o : Outcome) (r : ℕ) (x : Found) → scratchSize ≤ length s → 64 ≤ length p
+pub served-refused : (s p s′ : List ℕ) (o : Outcome) (r : ℕ) (x : Found) → scratchSize ≤ length s → 64 ≤ length p
     → o ≡ refused r → x ≡ answerOf (refused r) → s′ ≡ filled scratchSize [] s
-    → (x ≡ answerOf (lent s p o)) × ((p ≡ placesLeft (lent s p o) p) × (s′ ≡ scratchLeft (tooLittle s p) s))
-enough-refused s p s′ o r x h k e f g =
+    → (x ≡ answerOf (lent s p o)) × ((p ≡ placesLeft (lent s p o) p) × (s′ ≡ scratchLeft (tooLittle 64 s p) s))
+served-refused s p s′ o r x h k e f g =
     let (answer, left) = refused-found o r p x e f in
-    enough s p s′ p o x h k answer left g
+    served s p s′ p o x h k answer left g
 
 -- ---- the chain at a position
 

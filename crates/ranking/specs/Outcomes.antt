@@ -18,10 +18,10 @@ use Rattle.chains.specs.Weight.{weight, total-chainOf}
 use Rattle.chains.specs.RoundTrip.{chain-word-chain, word-chained, word-chain-word, word-reads}
 use Rattle.chains.specs.Bounds.{weight-wordOf}
 use Rattle.chains.specs.PositionsOfChains.{chainAt-chain, position-at, at-position}
-use Rattle.parts.specs.Parts.{placeOf}
+use Rattle.parts.specs.Parts.{partNumber}
 use Rattle.words.specs.Records.{recordParts, judgedOf}
 use Rattle.words.specs.RecordLaws.{in-table, judged-sum}
-use Rattle.words.specs.WordLaws.{parts-of-places, places-of-parts, chain-judged}
+use Rattle.words.specs.WordLaws.{parts-of-numbers, numbers-of-parts, chain-judged}
 use Rattle.words.specs.Answers.{sized, weighedOf}
 use Rattle.words.specs.declared.Weighed.the-variants.{Number, Over}
 use Rattle.words.specs.declared.Judged.{Judged}
@@ -184,23 +184,23 @@ next-gives w n c e = go (ofWord w) refl
 -- ---- of a record
 
 -- Reading the part numbers of a chain of n gives the chain.
-pub record-chain : (n : ℕ) (c : List Part) → ChainOf n c → n < 2 ^ 64 → ofRecord (map placeOf c) ≡ gives n c
+pub record-chain : (n : ℕ) (c : List Part) → ChainOf n c → n < 2 ^ 64 → ofRecord (map partNumber c) ≡ gives n c
 unfolding ofRecord judgedAs
-record-chain n c h f = rw (chain-judged n c h f) (ap (gives n) (parts-of-places c (omega (arith, h .sums))))
+record-chain n c h f = rw (chain-judged n c h f) (ap (gives n) (parts-of-numbers c (omega (arith, h .sums))))
 
 -- What reading a record gives is the chain of those part numbers.
-pub record-gives : (l : List ℕ) (n : ℕ) (c : List Part) → ofRecord l ≡ gives n c → ChainOf n c × (map placeOf c ≡ l) × (n < 2 ^ 64)
+pub record-gives : (l : List ℕ) (n : ℕ) (c : List Part) → ofRecord l ≡ gives n c → ChainOf n c × (map partNumber c ≡ l) × (n < 2 ^ 64)
 unfolding ofRecord judgedAs
 record-gives l n c e = go (judgedOf l) refl
   where
-    go : (j : Judged) → judgedOf l ≡ j → ChainOf n c × (map placeOf c ≡ l) × (n < 2 ^ 64)
+    go : (j : Judged) → judgedOf l ≡ j → ChainOf n c × (map partNumber c ≡ l) × (n < 2 ^ 64)
     go (judged.Sum m) f =
         let k = rw f at e in
         let b = judged-sum l m .0 f in
         let same : recordParts l ≡ c = cc k in
         let number : m ≡ n = cc k in (
           rw (same, number) at (b .chain),
-          ap (map placeOf) (sym same) ∙ places-of-parts l (in-table l .1 (b .known)),
+          ap (map partNumber) (sym same) ∙ numbers-of-parts l (in-table l .1 (b .known)),
           rw number at (b .fits),
         )
     go (judged.Refused r) f =

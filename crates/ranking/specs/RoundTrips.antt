@@ -12,17 +12,17 @@ use native.Mathlib.Omega.{arith}
 use lib.Dec.{ltb}
 use lib.ListN.{length, take, length-map}
 use borrow.Author.Tests.{le-ltb}
+use Rattle.lent.specs.LentLaws.{filled-first, scratch-enough, enough}
 use Rattle.chains.specs.Chains.{Part, ChainOf}
 use Rattle.chains.specs.Words.{Word, wordOf}
 use Rattle.chains.specs.Listing.{count, position}
 use Rattle.chains.specs.PositionsOfChains.{at-position}
-use Rattle.lent.specs.Lent.{filled, filled-first}
-use Rattle.grid.specs.Grid.{scratchSize}
-use Rattle.parts.specs.Parts.{placeOf}
+use Rattle.lent.specs.Lent.{filled, scratchSize, littleScratch, tooLittle, Enough}
+use Rattle.parts.specs.Parts.{partNumber}
 use Rattle.words.specs.Conversions.{writtenOf, lettersLeft}
 use Rattle.words.specs.WordLaws.{chain-written}
 use Rattle.words.specs.declared.Written.the-variants as written
-use Rattle.ranking.specs.Services.{Outcome, refused, gives, tooLittle, lent, lentScratch, answerOf, placesLeft}
+use Rattle.ranking.specs.Services.{Outcome, refused, gives, lent, lentScratch, answerOf, placesLeft}
 use Rattle.ranking.specs.Services.{placedOf, atPosition, ofWord, nextOf, ofRecord}
 use Rattle.ranking.specs.Outcomes.{at-below, at-past, at-chain, at-gives, of-chain, of-gives, next-below, next-last}
 use Rattle.ranking.specs.Outcomes.{next-gives, record-chain, record-gives}
@@ -31,26 +31,17 @@ use Rattle.ranking.specs.declared.Found.the-variants as found
 
 -- ---- answers and outcomes
 
--- Enough is lent.
-pub record Enough (scratch places : List ℕ) : Type 0 where
-  pub numbers : scratchSize ≤ length scratch
-  pub room : 64 ≤ length places
-
-pub enough : (scratch places : List ℕ) → Enough scratch places → tooLittle scratch places ≡ false
-unfolding tooLittle
-enough scratch places h = rw (le-ltb (length scratch) scratchSize (h .numbers), le-ltb (length places) 64 (h .room))
-
-lent-enough : (scratch places : List ℕ) (o : Outcome) → tooLittle scratch places ≡ false → lent scratch places o ≡ o
+lent-enough : (scratch places : List ℕ) (o : Outcome) → tooLittle 64 scratch places ≡ false → lent scratch places o ≡ o
 unfolding lent
 lent-enough scratch places o e = rw e
 
 -- Then the outcome is the service's own.
-pub lent-all : (scratch places : List ℕ) (o : Outcome) → Enough scratch places → lent scratch places o ≡ o
-lent-all scratch places o h = lent-enough scratch places o (enough scratch places h)
+pub lent-all : (scratch places : List ℕ) (o : Outcome) → Enough 64 scratch places → lent scratch places o ≡ o
+lent-all scratch places o h = lent-enough scratch places o (enough 64 scratch places h)
 
-scratch-enough : (scratch : List ℕ) (o : Outcome) → scratchSize ≤ length scratch → lentScratch scratch o ≡ o
+lent-scratch : (scratch : List ℕ) (o : Outcome) → scratchSize ≤ length scratch → lentScratch scratch o ≡ o
 unfolding lentScratch
-scratch-enough scratch o h = rw (le-ltb (length scratch) scratchSize h)
+lent-scratch scratch o h = rw (scratch-enough scratch h)
 
 -- A chain is answered only where enough is lent and the service's own outcome gives one.
 own-gives :
@@ -64,12 +55,12 @@ own-gives false (gives n c) given = (n, c, refl, refl)
 found-gives :
     {P : Type 0} (scratch places : List ℕ) (o : Outcome) (n i k : ℕ)
     → answerOf (lent scratch places o) ≡ found.Chain n i k
-    → ((c : List Part) → o ≡ gives n c → tooLittle scratch places ≡ false → position n c ≡ i → length c ≡ k → P)
+    → ((c : List Part) → o ≡ gives n c → tooLittle 64 scratch places ≡ false → position n c ≡ i → length c ≡ k → P)
     → P
 unfolding lent answerOf
 found-gives scratch places o n i k e then =
     let (m, c, enough, given) =
-    own-gives (tooLittle scratch places) o (λ r f. let z : _≡_ {A = ℕ} 0 1 = cc (rw f at e) in omega arith) in
+    own-gives (tooLittle 64 scratch places) o (λ r f. let z : _≡_ {A = ℕ} 0 1 = cc (rw f at e) in omega arith) in
     let g = rw (enough, given) at e in
     let number : m ≡ n = cc g in
     then c (given ∙ ap (λ (x : ℕ). gives x c) number) enough (cc g) (cc g)
@@ -82,7 +73,7 @@ placed-gives :
 unfolding lentScratch placedOf
 placed-gives scratch o n i e then =
     let (m, c, enough, given) =
-    own-gives (ltb (length scratch) scratchSize) o (λ r f. let z : _≡_ {A = ℕ} 0 1 = cc (rw f at e) in omega arith) in
+    own-gives (littleScratch scratch) o (λ r f. let z : _≡_ {A = ℕ} 0 1 = cc (rw f at e) in omega arith) in
     let g = rw (enough, given) at e in
     let number : m ≡ n = cc g in
     then c (given ∙ ap (λ (x : ℕ). gives x c) number) (cc g)
@@ -90,9 +81,9 @@ placed-gives scratch o n i e then =
 -- ---- the part numbers in the places
 
 -- The first k places are the part numbers of the chain.
-pub numbers-left : (n : ℕ) (c : List Part) (entry : List ℕ) → take (length c) (placesLeft (gives n c) entry) ≡ map placeOf c
+pub numbers-left : (n : ℕ) (c : List Part) (entry : List ℕ) → take (length c) (placesLeft (gives n c) entry) ≡ map partNumber c
 unfolding placesLeft
-numbers-left n c entry = rw (← length-map c placeOf) (filled-first 64 (map placeOf c) entry)
+numbers-left n c entry = rw (← length-map c partNumber) (filled-first 64 (map partNumber c) entry)
 
 -- Read as a record, they tell the chain's position.
 left-record :
@@ -114,7 +105,7 @@ left-record o n i k c places l e there size first chain f s h =
       ← there,
       ← size,
       numbers-left n c places,
-      scratch-enough s (ofRecord (map placeOf c)) h,
+      lent-scratch s (ofRecord (map partNumber c)) h,
       record-chain n c chain f,
     )
 
@@ -125,34 +116,34 @@ letters-left :
     → n < 2 ^ 64
     → (room : List ℕ)
     → 64 ≤ length room
-    → take (length (wordOf c)) (lettersLeft (map placeOf c) room (writtenOf (map placeOf c) (length room))) ≡ wordOf c
+    → take (length (wordOf c)) (lettersLeft (map partNumber c) room (writtenOf (map partNumber c) (length room))) ≡ wordOf c
 letters-left n c chain f room h = rw (chain-written n c chain f room h .1) (filled-first 64 (wordOf c) room)
 
 -- ---- a chain of n
 
 -- What the services answer and leave behind for a chain c of n, asked by its record, its position and its word.
 pub record Trips (n : ℕ) (c : List Part) (scratch places room : List ℕ) : Type 0 where
-  pub read-record : placedOf (lentScratch scratch (ofRecord (map placeOf c))) ≡ placed.At n (position n c)
+  pub read-record : placedOf (lentScratch scratch (ofRecord (map partNumber c))) ≡ placed.At n (position n c)
   pub chain-at : lent scratch places (atPosition n (position n c)) ≡ gives n c
   pub read-word : lent scratch places (ofWord (wordOf c)) ≡ gives n c
   pub next-chain : position n c + 1 < count n
       → lent scratch places (nextOf (ofWord (wordOf c))) ≡ lent scratch places (atPosition n (position n c + 1))
   pub next-last : position n c + 1 ≡ count n → lent scratch places (nextOf (ofWord (wordOf c))) ≡ refused 11
-  pub write-word : writtenOf (map placeOf c) (length room) ≡ written.Letters (length (wordOf c))
-  pub word-left : lettersLeft (map placeOf c) room (writtenOf (map placeOf c) (length room)) ≡ filled 64 (wordOf c) room
+  pub write-word : writtenOf (map partNumber c) (length room) ≡ written.Letters (length (wordOf c))
+  pub word-left : lettersLeft (map partNumber c) room (writtenOf (map partNumber c) (length room)) ≡ filled 64 (wordOf c) room
 
 pub chain-trips :
     (n : ℕ) (c : List Part) (scratch places room : List ℕ)
     → ChainOf n c
     → n < 2 ^ 64
-    → Enough scratch places
+    → Enough 64 scratch places
     → 64 ≤ length room
     → Trips n c scratch places room
 unfolding placedOf
 chain-trips n c scratch places room h f e r =
     let served : (o : Outcome) → lent scratch places o ≡ o = λ o. lent-all scratch places o e in
     record {
-      read-record = rw (scratch-enough scratch (ofRecord (map placeOf c)) (e .numbers), record-chain n c h f);
+      read-record = rw (lent-scratch scratch (ofRecord (map partNumber c)) (e .numbers), record-chain n c h f);
       chain-at = served (atPosition n (position n c)) ∙ at-chain n c h;
       read-word = served (ofWord (wordOf c)) ∙ of-chain n c h f;
       next-chain = λ l. ap (lent scratch places) (next-below n c h f l);
@@ -168,7 +159,7 @@ pub record-then-position :
     (l s : List ℕ) (n i : ℕ)
     → placedOf (lentScratch s (ofRecord l)) ≡ placed.At n i
     → (scratch places : List ℕ)
-    → Enough scratch places
+    → Enough 64 scratch places
     → (answerOf (lent scratch places (atPosition n i)) ≡ found.Chain n i (length l))
     × (placesLeft (lent scratch places (atPosition n i)) places ≡ filled 64 l places)
 unfolding answerOf placesLeft
@@ -176,7 +167,7 @@ record-then-position l s n i e scratch places h =
     placed-gives s (ofRecord l) n i e λ c given there.
     let (chain, numbers, f) = record-gives l n c given in
     let at : atPosition n i ≡ gives n c = rw there at (at-chain n c chain) in
-    rw (lent-enough scratch places (atPosition n i) (enough scratch places h), at, there, ← numbers, length-map c placeOf)
+    rw (lent-enough scratch places (atPosition n i) (enough 64 scratch places h), at, there, ← numbers, length-map c partNumber)
     (refl, refl)
 
 -- What the chain at a position leaves in the places, read as a record, tells that position.
@@ -200,11 +191,11 @@ position-then-record n i m j k scratch places l f e first s h =
 -- A position is refused with 6 exactly where it is not below the count.
 pub position-refused :
     (n i : ℕ) (scratch places : List ℕ)
-    → Enough scratch places
+    → Enough 64 scratch places
     → (answerOf (lent scratch places (atPosition n i)) ≡ found.Refused 6) ↔ (count n ≤ i)
 unfolding answerOf
 position-refused n i scratch places h =
-    rw (lent-enough scratch places (atPosition n i) (enough scratch places h))
+    rw (lent-enough scratch places (atPosition n i) (enough 64 scratch places h))
     (λ e. only e (decLt i (count n)), λ l. rw (at-past n i l))
   where
     only : answerOf (atPosition n i) ≡ found.Refused 6 → Dec (i < count n) → count n ≤ i
@@ -227,7 +218,7 @@ pub word-then-word :
 word-then-word w n i k scratch places l e first room h =
     found-gives scratch places (ofWord w) n i k e λ c given own there size.
     let (chain, word, f) = of-gives w n c given in
-    let numbers : map placeOf c ≡ l =
+    let numbers : map partNumber c ≡ l =
     rw (lent-enough scratch places (ofWord w) own, given, ← size, numbers-left n c places) at first in
     rw (← numbers, ← word) (chain-written n c chain f room h)
 
@@ -253,7 +244,7 @@ pub record-then-word :
     → writtenOf l (length room) ≡ written.Letters k
     → take k (lettersLeft l room (writtenOf l (length room))) ≡ w
     → (scratch places : List ℕ)
-    → Enough scratch places
+    → Enough 64 scratch places
     → (answerOf (lent scratch places (ofWord w)) ≡ found.Chain n i (length l))
     × (placesLeft (lent scratch places (ofWord w)) places ≡ filled 64 l places)
 unfolding answerOf placesLeft
@@ -264,12 +255,12 @@ record-then-word l s n i k room w e h told first scratch places g =
     let size : length (wordOf c) ≡ k = cc (rw numbers at letters) in
     let word : wordOf c ≡ w = sym (letters-left n c chain f room h) ∙ rw (← numbers, ← size) at first in
     rw (
-      lent-enough scratch places (ofWord w) (enough scratch places g),
+      lent-enough scratch places (ofWord w) (enough 64 scratch places g),
       ← word,
       of-chain n c chain f,
       there,
       ← numbers,
-      length-map c placeOf,
+      length-map c partNumber,
     )
     (refl, refl)
 

@@ -1,9 +1,9 @@
 -- The services that find a chain or its place in the list of n: document 01, 'Services and memory' and the table of refusals.
 --
 -- Each service has an outcome: a refusal by its number, or a chain of n. What it answers, and what it leaves in the places and in
--- the scratch (`scratchLeft` in grid), follow from the outcome alone, by one rule for all services.
+-- the scratch (`scratchLeft` in lent), follow from the outcome alone, by one rule for all services.
 -- Definitions only. Demand 2 as theorems on these answers is in RoundTrips.
-use mathlib.Core.Bool.{Bool, true, cond, _||_}
+use mathlib.Core.Bool.{true, cond}
 use mathlib.Core.List.{List, map}
 use Prim.Native.Nat.{ℕ, _+_, _^_}
 use lib.Dec.{ltb, leb}
@@ -12,9 +12,8 @@ use Rattle.chains.specs.Chains.{Part}
 use Rattle.chains.specs.Words.{Word, chainOf, reads}
 use Rattle.chains.specs.Weight.{weight}
 use Rattle.chains.specs.Listing.{count, position, chainAt}
-use Rattle.lent.specs.Lent.{filled}
-use Rattle.grid.specs.Grid.{scratchSize}
-use Rattle.parts.specs.Parts.{placeOf}
+use Rattle.lent.specs.Lent.{filled, littleScratch, tooLittle}
+use Rattle.parts.specs.Parts.{partNumber}
 use Rattle.words.specs.declared.Judged.{Judged}
 use Rattle.words.specs.declared.Judged.the-variants as judged
 use Rattle.words.specs.Records.{recordParts, judgedOf}
@@ -30,13 +29,9 @@ pub data Outcome : Type 0 where
   refused : ℕ → Outcome
   gives : ℕ → List Part → Outcome
 
--- Too little is lent: a scratch under 5,248, or fewer than 64 places.
-unfoldable pub tooLittle : List ℕ → List ℕ → Bool
-tooLittle scratch places = ltb (length scratch) scratchSize || ltb (length places) 64
-
 -- Refusal 1 first.
 unfoldable pub lent : List ℕ → List ℕ → Outcome → Outcome
-lent scratch places o = cond (tooLittle scratch places) (refused 1) o
+lent scratch places o = cond (tooLittle 64 scratch places) (refused 1) o
 
 -- ---- what a service answers and leaves behind
 
@@ -48,7 +43,7 @@ answerOf (gives n c) = found.Chain n (position n c) (length c)
 -- The places at exit: the part numbers, largest part first, zeros up to 64, later places untouched; untouched with a refusal.
 unfoldable pub placesLeft : Outcome → List ℕ → List ℕ
 placesLeft (refused r) entry = entry
-placesLeft (gives n c) entry = filled 64 (map placeOf c) entry
+placesLeft (gives n c) entry = filled 64 (map partNumber c) entry
 
 -- ---- the services
 
@@ -91,4 +86,4 @@ placedOf (refused r) = placed.Refused r
 placedOf (gives n c) = placed.At n (position n c)
 
 unfoldable pub lentScratch : List ℕ → Outcome → Outcome
-lentScratch scratch o = cond (ltb (length scratch) scratchSize) (refused 1) o
+lentScratch scratch o = cond (littleScratch scratch) (refused 1) o

@@ -8,10 +8,11 @@ use mathlib.Core.List.{List, [], _∷_, _++_, List·Memᴰ}
 use Prim.Native.Nat.{ℕ, _+_, _^_, _≤_, _<_}
 use lib.Dec.{T}
 use lib.ListN.{length, getD, take, drop}
+use Rattle.lent.specs.Lent.{scratchSize}
 use Rattle.chains.specs.Words.{Word, reads}
 use Rattle.chains.specs.Listing.{wordsAt, listOf, count, countBefore}
 use Rattle.chains.specs.Counts.{ways}
-use Rattle.grid.specs.Grid.{scratchSize, Table}
+use Rattle.grid.specs.Grid.{Table}
 use Rattle.grid.specs.Rests.{restAt}
 use Rattle.counting.specs.Table.{countCell}
 

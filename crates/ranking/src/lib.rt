@@ -7,10 +7,8 @@ use words::Parted;
 use words::Weighed;
 use words::Written;
 ghost use mathlib.Core.Path.{_≡_};
-ghost use lib.Dec.{ltb};
-ghost use lib.ListN.{length};
-ghost use Rattle.grid.specs.Grid.{scratchSize, scratchLeft};
-ghost use Rattle.ranking.specs.Services.{lent, tooLittle, answerOf, placesLeft, atPosition, ofWord, nextOf};
+ghost use Rattle.lent.specs.Lent.{littleScratch, tooLittle, scratchLeft};
+ghost use Rattle.ranking.specs.Services.{lent, answerOf, placesLeft, atPosition, ofWord, nextOf};
 ghost use Rattle.ranking.specs.Services.{ofRecord, placedOf, lentScratch};
 
 // Where a record's chain stands, or the refusal.
@@ -30,9 +28,9 @@ pub enum Found {
 pub fn read_record(numbers: &[u16], scratch: &mut [u64]) -> Placed
     ensures answer { λ r. ⌜ r ≡ placedOf (lentScratch (now (scratch .entry)) (ofRecord (now (numbers .entry)))) ⌝ }
     ensures scratch { λ _. ⌜ now (scratch .exit)
-        ≡ scratchLeft (ltb (length (now (scratch .entry))) scratchSize) (now (scratch .entry)) ⌝ }
+        ≡ scratchLeft (littleScratch (now (scratch .entry))) (now (scratch .entry)) ⌝ }
 {
-    if scratch.len() < 5248 {
+    if scratch.len() < lent::SCRATCH {
         return Placed::Refused(1);
     }
     let mut letters = [0u8; 64];
@@ -55,9 +53,9 @@ pub fn read_word(letters: &[u8], scratch: &mut [u64], places: &mut [u16]) -> Fou
     ensures places { λ _. ⌜ now (places .exit)
         ≡ placesLeft (lent (now (scratch .entry)) (now (places .entry)) (ofWord (now (letters .entry)))) (now (places .entry)) ⌝ }
     ensures scratch { λ _. ⌜ now (scratch .exit)
-        ≡ scratchLeft (tooLittle (now (scratch .entry)) (now (places .entry))) (now (scratch .entry)) ⌝ }
+        ≡ scratchLeft (tooLittle 64 (now (scratch .entry)) (now (places .entry))) (now (scratch .entry)) ⌝ }
 {
-    if scratch.len() < 5248 {
+    if scratch.len() < lent::SCRATCH {
         return Found::Refused(1);
     }
     if places.len() < 64 {
@@ -78,7 +76,7 @@ pub fn chain_at(n: u64, position: u64, scratch: &mut [u64], places: &mut [u16]) 
     ensures places { λ _. ⌜ now (places .exit)
         ≡ placesLeft (lent (now (scratch .entry)) (now (places .entry)) (atPosition n position)) (now (places .entry)) ⌝ }
     ensures scratch { λ _. ⌜ now (scratch .exit)
-        ≡ scratchLeft (tooLittle (now (scratch .entry)) (now (places .entry))) (now (scratch .entry)) ⌝ }
+        ≡ scratchLeft (tooLittle 64 (now (scratch .entry)) (now (places .entry))) (now (scratch .entry)) ⌝ }
 {
     if places.len() < 64 {
         return Found::Refused(1);
@@ -98,9 +96,9 @@ pub fn next_chain(letters: &[u8], scratch: &mut [u64], places: &mut [u16]) -> Fo
         ≡ placesLeft (lent (now (scratch .entry)) (now (places .entry)) (nextOf (ofWord (now (letters .entry)))))
         (now (places .entry)) ⌝ }
     ensures scratch { λ _. ⌜ now (scratch .exit)
-        ≡ scratchLeft (tooLittle (now (scratch .entry)) (now (places .entry))) (now (scratch .entry)) ⌝ }
+        ≡ scratchLeft (tooLittle 64 (now (scratch .entry)) (now (places .entry))) (now (scratch .entry)) ⌝ }
 {
-    if scratch.len() < 5248 {
+    if scratch.len() < lent::SCRATCH {
         return Found::Refused(1);
     }
     if places.len() < 64 {

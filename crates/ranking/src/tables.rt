@@ -10,8 +10,7 @@ ghost use mathlib.Core.List.{[]};
 ghost use Prim.Native.Nat.{_+_, _≤_};
 ghost use lib.ListN.{length};
 ghost use Rattle.chains.specs.Listing.{listOf, countBefore};
-ghost use Rattle.grid.specs.Grid.{scratchSize};
-ghost use Rattle.lent.specs.Lent.{filled};
+ghost use Rattle.lent.specs.Lent.{filled, scratchSize};
 ghost use Rattle.ranking.specs.Services.{refused, placedOf, answerOf, placesLeft, ofWord, standing};
 ghost use Rattle.ranking.specs.Walks.{Listed, Readable, Giving};
 
@@ -20,7 +19,7 @@ pub fn clear(scratch: &mut [u64])
     requires { ⌜ scratchSize ≤ length (now scratch) ⌝ }
     ensures { λ _. ⌜ now (scratch .exit) ≡ filled scratchSize [] (now (scratch .entry)) ⌝ }
 {
-    lent::clear_u64(&mut scratch[0..5248]);
+    lent::clear_u64(&mut scratch[0..lent::SCRATCH]);
 }
 
 // A refusal by its number; the scratch is zeroed as on success.

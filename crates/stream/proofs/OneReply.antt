@@ -9,18 +9,17 @@ use Prim.Native.Nat.{ℕ, _+_, _-_, _≤_, _<_}
 use native.Mathlib.Nat.{zero-add, suc-add}
 use native.Mathlib.Numerals.{add-one}
 use native.Mathlib.Omega.{arith}
-use borrow.Author.Tests.{le-ltb}
 use borrow.Rule.Slice.PartMut.{midOf, putMid, take-put}
 use lib.ListN.{length, take, drop, set, length-append, length-drop, length-set, take-append-drop}
 use lib.Seq.{length-take-le, set-split}
-use Rattle.lent.specs.Lent.{filled, length-filled, filled-first}
+use Rattle.lent.specs.LentLaws.{length-filled, filled-first, enough}
+use Rattle.lent.specs.Lent.{filled, tooLittle, scratchLeft, scratchSize, Enough}
 use Rattle.lent.specs.Parts.{part-lent, part-back}
 use Rattle.digits.specs.DigitLaws.{length-digits}
-use Rattle.frames.specs.Replies.{Reply, refusedAs, servedWith, digitsIn, replyTo, replyOf, littleLent, repliedOf, answerTo, outLeft}
+use Rattle.frames.specs.Replies.{Reply, refusedAs, servedWith, digitsIn, replyTo, replyOf, repliedOf, answerTo, outLeft}
 use Rattle.frames.specs.ReplyLaws.{reply-short}
 use Rattle.stream.specs.Answers.{behindOne}
 use Rattle.stream.specs.Pieces.{digitsTold, Adds}
-use Rattle.grid.specs.Grid.{scratchLeft}
 
 -- ---- what `frames::reply` gives
 
@@ -29,20 +28,19 @@ unfolding digitsTold repliedOf digitsIn
 told-length (refusedAs r) = sym (length-digits 2 r)
 told-length (servedWith ds) = refl
 
-module _ (line scratch part : List ℕ) (h : 5248 ≤ length scratch) (k : 514 ≤ length part) where
-  enough-lent : littleLent scratch part ≡ false
-  unfolding littleLent
-  enough-lent = rw (le-ltb (length scratch) 5248 h, le-ltb (length part) 514 k)
+module _ (line scratch part : List ℕ) (h : scratchSize ≤ length scratch) (k : 514 ≤ length part) where
+  enough-lent : tooLittle 514 scratch part ≡ false
+  enough-lent = enough 514 scratch part (record { numbers = h; room = k })
 
-  pub reply-told : digitsTold (answerTo (littleLent scratch part) line) ≡ length (replyOf line)
+  pub reply-told : digitsTold (answerTo (tooLittle 514 scratch part) line) ≡ length (replyOf line)
   unfolding answerTo replyOf
   reply-told = rw enough-lent (told-length (replyTo line))
 
-  pub reply-out : outLeft (littleLent scratch part) line part ≡ filled 514 (replyOf line) part
+  pub reply-out : outLeft (tooLittle 514 scratch part) line part ≡ filled 514 (replyOf line) part
   unfolding outLeft
   reply-out = rw enough-lent
 
-  pub reply-scratch : scratchLeft (littleLent scratch part) scratch ≡ filled 5248 [] scratch
+  pub reply-scratch : scratchLeft (tooLittle 514 scratch part) scratch ≡ filled scratchSize [] scratch
   unfolding scratchLeft
   reply-scratch = rw enough-lent
 

@@ -8,7 +8,8 @@ use native.Mathlib.Numerals.{add-one}
 use native.Mathlib.Omega.{arith}
 use lib.ListN.{length, take, drop, getD, length-append, length-drop}
 use lib.Seq.{length-take-le, take-all, take-add, take-suc, take-at, drop-at}
-use Rattle.lent.specs.Lent.{filled, zeros, length-zeros, length-filled}
+use Rattle.lent.specs.LentLaws.{length-zeros, length-filled}
+use Rattle.lent.specs.Lent.{filled, zeros, scratchSize}
 use Rattle.lines.specs.Stream.{finished, unfinished, repliesTo}
 use Rattle.lines.specs.StreamLaws.{finished-append, unfinished-append, finished-stretch, unfinished-stretch, finished-line, unfinished-line, replies-append, take-first}
 use Rattle.frames.specs.Replies.{replyOf}
@@ -46,7 +47,7 @@ pub record Turn (line block keptEntry scratchEntry outEntry kept scratch out : L
   pub wrote : Wrote (finished line (take at block)) outEntry out written
   pub same : length out ≡ length outEntry
   pub keeps : Keeps (unfinished line (take at block)) keptEntry kept left
-  pub rest : Later 5248 scratchEntry scratch
+  pub rest : Later scratchSize scratchEntry scratch
 
 -- ---- the start
 
@@ -108,8 +109,8 @@ module _ {line block keptEntry scratchEntry outEntry kept scratch out : List ℕ
   same-reply : replyOf (take left kept ++ piece at end block) ≡ replyOf (readTo line block at end)
   same-reply = first-515 (take left kept ++ piece at end block) ∙ ap replyOf same-first ∙ sym (first-515 (readTo line block at end))
 
-  pub one-more : (keptExit scratchExit outExit : List ℕ) (n next : ℕ) → end < length block → 5248 ≤ length scratchEntry
-      → Adds (replyOf (take left kept ++ piece at end block)) written out outExit n → Later 515 kept keptExit → scratchExit ≡ filled 5248 [] scratch
+  pub one-more : (keptExit scratchExit outExit : List ℕ) (n next : ℕ) → end < length block → scratchSize ≤ length scratchEntry
+      → Adds (replyOf (take left kept ++ piece at end block)) written out outExit n → Later 515 kept keptExit → scratchExit ≡ filled scratchSize [] scratch
       → LineEnd block (end + 1) next
       → Turn line block keptEntry scratchEntry outEntry keptExit scratchExit outExit (end + 1) 0 n next
   unfolding finished unfinished
@@ -132,7 +133,7 @@ module _ {line block keptEntry scratchEntry outEntry kept scratch out : List ℕ
           most = omega arith;
           rest = later-twice 515 keptEntry kept keptExit (turn .keeps .rest) l;
         });
-        rest = later-twice 5248 scratchEntry scratch scratchExit (turn .rest) (rw z (later-filled 5248 scratch (omega arith)));
+        rest = later-twice scratchSize scratchEntry scratch scratchExit (turn .rest) (rw z (later-filled scratchSize scratch (omega arith)));
       }
 
   -- ---- the ends

@@ -7,7 +7,7 @@ use mathlib.Core.Path.{_≡_}
 use mathlib.Core.List.{List, [], _∷_, _++_}
 use Prim.Native.Nat.{ℕ, _+_, _≤_, _<_}
 use lib.ListN.{length, take, drop}
-use Rattle.lent.specs.Lent.{filled}
+use Rattle.lent.specs.Lent.{filled, scratchSize}
 use Rattle.lines.specs.Stream.{finished, unfinished, lastLine, repliesTo}
 use Rattle.frames.specs.Replies.{replyOf}
 use Rattle.stream.specs.declared.Fed.{Fed}
@@ -19,7 +19,7 @@ use Rattle.stream.specs.declared.Fed.{Fed}
 pub record Enough (kept k scratch out : ℕ) : Type 0 where
   pub kept-lent : 515 ≤ kept
   pub line-kept : k ≤ 515
-  pub scratch-lent : 5248 ≤ scratch
+  pub scratch-lent : scratchSize ≤ scratch
   pub out-lent : 515 ≤ out
 
 -- ---- the replies in `out`
@@ -56,7 +56,7 @@ pub record Answered (line block keptEntry keptExit outEntry outExit : List ℕ) 
 -- The answer at all inputs. Where less is lent, nothing is used or written, the k characters stay kept, and nothing is touched.
 pub record BlockAnswer (block : List ℕ) (k : ℕ) (keptEntry keptExit scratchEntry scratchExit outEntry outExit : List ℕ) (r : Fed) : Type 0 where
   pub answered : Enough (length keptEntry) k (length scratchEntry) (length outEntry)
-      → Answered (take k keptEntry) block keptEntry keptExit outEntry outExit r × (scratchExit ≡ filled 5248 [] scratchEntry)
+      → Answered (take k keptEntry) block keptEntry keptExit outEntry outExit r × (scratchExit ≡ filled scratchSize [] scratchEntry)
   pub untouched : (Enough (length keptEntry) k (length scratchEntry) (length outEntry) → ⊥)
       → (r ≡ record { used = 0; kept = k; written = 0 }) × (keptExit ≡ keptEntry) × (scratchExit ≡ scratchEntry) × (outExit ≡ outEntry)
 
@@ -65,6 +65,6 @@ pub record BlockAnswer (block : List ℕ) (k : ℕ) (keptEntry keptExit scratchE
 -- What is kept is the last line, unless it is empty. The answer at all inputs; n tells how many bytes were written.
 pub record EndAnswer (kept : List ℕ) (k : ℕ) (scratchEntry scratchExit outEntry outExit : List ℕ) (n : ℕ) : Type 0 where
   pub answered : Enough (length kept) k (length scratchEntry) (length outEntry)
-      → Wrote (lastLine (take k kept)) outEntry outExit n × (scratchExit ≡ filled 5248 [] scratchEntry)
+      → Wrote (lastLine (take k kept)) outEntry outExit n × (scratchExit ≡ filled scratchSize [] scratchEntry)
   pub untouched : (Enough (length kept) k (length scratchEntry) (length outEntry) → ⊥)
       → (n ≡ 0) × (scratchExit ≡ scratchEntry) × (outExit ≡ outEntry)

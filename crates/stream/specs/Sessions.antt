@@ -8,7 +8,7 @@ use Prim.Native.Nat.{ℕ, zero, suc, _≤_, _<_}
 use native.Mathlib.Omega.{arith}
 use lib.ListN.{length, take, getD, length-append, length-take, length-map}
 use lib.Seq.{take-at}
-use Rattle.lent.specs.Lent.{filled-first}
+use Rattle.lent.specs.LentLaws.{filled-first}
 use Rattle.lines.specs.Stream.{finished, unfinished, lastLine, linesOf, repliesTo, answersTo}
 use Rattle.lines.specs.StreamLaws.{replies-lines, answers-lines}
 use Rattle.frames.specs.Replies.{replyOf}

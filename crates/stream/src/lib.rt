@@ -7,7 +7,7 @@ ghost use mathlib.Core.Bool.{true, false};
 ghost use mathlib.Core.List.{[], _++_};
 ghost use Prim.Native.Nat.{_+_, _≤_, min};
 ghost use lib.ListN.{length, take};
-ghost use Rattle.lent.specs.Lent.{filled};
+ghost use Rattle.lent.specs.Lent.{filled, scratchSize};
 ghost use Rattle.lines.specs.Stream.{unfinished};
 ghost use Rattle.frames.specs.Replies.{replyOf};
 ghost use Rattle.stream.specs.Answers.{Enough, Goes, BlockAnswer, EndAnswer};
@@ -32,7 +32,7 @@ fn is_enough(kept: usize, k: usize, scratch: usize, out: usize) -> bool
     if k > 515 {
         return false;
     }
-    if scratch < 5248 {
+    if scratch < lent::SCRATCH {
         return false;
     }
     out >= 515
@@ -85,19 +85,19 @@ fn digits_told(r: Replied) -> usize
 
 // Writes the reply to a line at the start of a part, and tells its length.
 fn put_reply(line: &[u8], scratch: &mut [u64], part: &mut [u8]) -> usize
-    requires { ⌜ (5248 ≤ length (now scratch)) × (514 ≤ length (now part)) ⌝ }
+    requires { ⌜ (scratchSize ≤ length (now scratch)) × (514 ≤ length (now part)) ⌝ }
     ensures { λ r. ⌜ (r ≡ length (replyOf (now (line .entry)))) × (r ≤ 514) ⌝ }
     ensures { λ _. ⌜ now (part .exit) ≡ filled 514 (replyOf (now (line .entry))) (now (part .entry)) ⌝ }
-    ensures { λ _. ⌜ now (scratch .exit) ≡ filled 5248 [] (now (scratch .entry)) ⌝ }
+    ensures { λ _. ⌜ now (scratch .exit) ≡ filled scratchSize [] (now (scratch .entry)) ⌝ }
 {
     digits_told(frames::reply(line, scratch, part))
 }
 
 // Writes the reply to a line and its byte 10 at `at`, and tells where they end.
 fn answer_line(line: &[u8], scratch: &mut [u64], out: &mut [u8], at: usize) -> usize
-    requires { ⌜ (5248 ≤ length (now scratch)) × (at + 515 ≤ length (now out)) ⌝ }
+    requires { ⌜ (scratchSize ≤ length (now scratch)) × (at + 515 ≤ length (now out)) ⌝ }
     ensures { λ r. ⌜ Adds (replyOf (now (line .entry))) at (now (out .entry)) (now (out .exit)) r ⌝ }
-    ensures { λ _. ⌜ now (scratch .exit) ≡ filled 5248 [] (now (scratch .entry)) ⌝ }
+    ensures { λ _. ⌜ now (scratch .exit) ≡ filled scratchSize [] (now (scratch .entry)) ⌝ }
 {
     let end = at + put_reply(line, scratch, &mut out[at..]);
     out[end] = 10;
@@ -116,7 +116,7 @@ fn finish_line(
     requires { ⌜ Enough (length (now kept)) k (length (now scratch)) (length (now out)) ⌝ }
     requires { ⌜ at + 515 ≤ length (now out) ⌝ }
     ensures { λ r. ⌜ Adds (replyOf (take k (now (kept .entry)) ++ now (part .entry))) at (now (out .entry)) (now (out .exit)) r ⌝ }
-    ensures { λ _. ⌜ now (scratch .exit) ≡ filled 5248 [] (now (scratch .entry)) ⌝ }
+    ensures { λ _. ⌜ now (scratch .exit) ≡ filled scratchSize [] (now (scratch .entry)) ⌝ }
     ensures { λ _. ⌜ Later 515 (now (kept .entry)) (now (kept .exit)) ⌝ }
 {
     if k == 0 {
@@ -131,7 +131,7 @@ fn answer_lines(block: &[u8], kept: &mut [u8], k: usize, scratch: &mut [u64], ou
     requires { ⌜ Enough (length (now kept)) k (length (now scratch)) (length (now out)) ⌝ }
     ensures { λ r. ⌜ Goes (take k (now (kept .entry))) (now (block .entry)) (now (out .entry)) (now (out .exit)) (r .used) (r .written) ⌝ }
     ensures { λ r. ⌜ Keeps (unfinished (take k (now (kept .entry))) (take (r .used) (now (block .entry)))) (now (kept .entry)) (now (kept .exit)) (r .kept) ⌝ }
-    ensures { λ _. ⌜ Later 5248 (now (scratch .entry)) (now (scratch .exit)) ⌝ }
+    ensures { λ _. ⌜ Later scratchSize (now (scratch .entry)) (now (scratch .exit)) ⌝ }
 {
     let mut at = 0;
     let mut left = k;
@@ -170,7 +170,7 @@ fn clear_behind(kept: &mut [u8], n: usize)
 // of a file. `out` gets the replies to the lines that end in the block, as many as there is room for: 515 bytes are asked for each,
 // which take the longest reply. What the answer says to be used of the block is done with; the rest of it is for the next call.
 // `kept` gets the first 515 characters of the line that is left unfinished, then zeros up to 515; the scratch gets zeros up to
-// 5,248; both keep what stands after. Where less than 5,248 of scratch, 515 of kept or 515 of out is lent, or k is above 515,
+// `lent::SCRATCH`; both keep what stands after. Where less than `lent::SCRATCH` of scratch, 515 of kept or 515 of out is lent, or k is above 515,
 // nothing is touched.
 pub fn answer_block(
     block: &[u8],
@@ -190,12 +190,12 @@ pub fn answer_block(
     }
     let fed = answer_lines(block, kept, k, scratch, out);
     clear_behind(kept, fed.kept);
-    lent::clear_u64(&mut scratch[0..5248]);
+    lent::clear_u64(&mut scratch[0..lent::SCRATCH]);
     fed
 }
 
 // Answers what is kept at the end of a file: a line, unless it is empty. Tells how many bytes were written. The scratch gets zeros
-// up to 5,248. Where less is lent than `answer_block` asks for, 0 is told and nothing is touched.
+// up to `lent::SCRATCH`. Where less is lent than `answer_block` asks for, 0 is told and nothing is touched.
 pub fn answer_end(kept: &[u8], k: usize, scratch: &mut [u64], out: &mut [u8]) -> usize
     ensures { λ r. ⌜ EndAnswer (now (kept .entry)) k (now (scratch .entry)) (now (scratch .exit)) (now (out .entry)) (now (out .exit)) r ⌝ }
 {
@@ -203,7 +203,7 @@ pub fn answer_end(kept: &[u8], k: usize, scratch: &mut [u64], out: &mut [u8]) ->
         return 0;
     }
     if k == 0 {
-        lent::clear_u64(&mut scratch[0..5248]);
+        lent::clear_u64(&mut scratch[0..lent::SCRATCH]);
         return 0;
     }
     answer_line(&kept[0..k], scratch, out, 0)

@@ -7,7 +7,7 @@ use lib.Dec.{ltb}
 use lib.ListN.{length}
 use Rattle.chains.specs.Words.{Word, wordOf, chainOf, reads}
 use Rattle.chains.specs.Weight.{weight}
-use Rattle.parts.specs.Parts.{placeOf}
+use Rattle.parts.specs.Parts.{partNumber}
 use Rattle.lent.specs.Lent.{filled}
 use Rattle.words.specs.Records.{recordParts, judgedOf}
 use Rattle.words.specs.declared.Judged.{Judged}
@@ -49,5 +49,5 @@ partedOf w places =
 
 -- What the places hold: the part numbers, largest part first, zeros up to 64, later places untouched; with a refusal all untouched.
 unfoldable pub numbersLeft : Word → List ℕ → Parted → List ℕ
-numbersLeft w entry (parted.Chain n k) = filled 64 (map placeOf (chainOf w)) entry
+numbersLeft w entry (parted.Chain n k) = filled 64 (map partNumber (chainOf w)) entry
 numbersLeft w entry (parted.Refused r) = entry

@@ -15,8 +15,8 @@ use Rattle.chains.specs.Words.{Word, wordOf, chainOf, reads}
 use Rattle.chains.specs.Weight.{weight}
 use Rattle.chains.specs.RoundTrip.{chain-word-chain, word-reads}
 use Rattle.chains.specs.Bounds.{parts-bound, weight-wordOf}
-use Rattle.parts.specs.Parts.{limit, placeOf}
-use Rattle.parts.specs.Numbers.{parts-complete, part-place, place-part}
+use Rattle.parts.specs.Parts.{limit, partNumber}
+use Rattle.parts.specs.Numbers.{parts-complete, part-of-number, number-of-part}
 use Rattle.lent.specs.Lent.{filled}
 use Rattle.words.specs.Records.{recordParts, beyond, judgedOf}
 use Rattle.words.specs.RecordLaws.{in-table, known-cons, judged-sum}
@@ -33,27 +33,27 @@ module _ (p : Part) (c : List Part) (h : total (p ∷ c) < limit) where
   both-below = (omega arith, omega arith)
 
 -- Parts whose sum is below 2^64 have numbers in the table, and are the parts of their numbers.
-places-known : (c : List Part) → total c < limit → beyond (map placeOf c) ≡ false
+numbers-known : (c : List Part) → total c < limit → beyond (map partNumber c) ≡ false
 unfolding beyond
-places-known [] h = refl
-places-known (p ∷ c) h =
+numbers-known [] h = refl
+numbers-known (p ∷ c) h =
     let (first, rest) = both-below p c h in
-    rw (lt-leb 1344 (placeOf p) (parts-complete p first .0), places-known c rest)
+    rw (lt-leb 1344 (partNumber p) (parts-complete p first .0), numbers-known c rest)
 
-pub parts-of-places : (c : List Part) → total c < limit → recordParts (map placeOf c) ≡ c
+pub parts-of-numbers : (c : List Part) → total c < limit → recordParts (map partNumber c) ≡ c
 unfolding recordParts
-parts-of-places [] h = refl
-parts-of-places (p ∷ c) h =
+parts-of-numbers [] h = refl
+parts-of-numbers (p ∷ c) h =
     let (first, rest) = both-below p c h in
-    ap₂ (λ q d. q ∷ d) (part-place p first) (parts-of-places c rest)
+    ap₂ (λ q d. q ∷ d) (part-of-number p first) (parts-of-numbers c rest)
 
 -- The numbers of a record are the places of their parts.
-pub places-of-parts : (l : List ℕ) → beyond l ≡ false → map placeOf (recordParts l) ≡ l
+pub numbers-of-parts : (l : List ℕ) → beyond l ≡ false → map partNumber (recordParts l) ≡ l
 unfolding recordParts
-places-of-parts [] e = refl
-places-of-parts (i ∷ l) e =
+numbers-of-parts [] e = refl
+numbers-of-parts (i ∷ l) e =
     let (first, rest) = known-cons i l e in
-    ap₂ (λ x y. x ∷ y) (place-part i first) (places-of-parts l rest)
+    ap₂ (λ x y. x ∷ y) (number-of-part i first) (numbers-of-parts l rest)
 
 -- ---- the answers where nothing is refused
 
@@ -71,7 +71,7 @@ module _ (entry : List ℕ) (room : 64 ≤ length entry) where
   -- A good word below 2^64 is taken apart into the numbers of its chain.
   word-parted : (w : Word) → T (reads true w) → weight w < 2 ^ 64
       → (partedOf w (length entry) ≡ parted.Chain (weight w) (length (chainOf w)))
-      × (numbersLeft w entry (partedOf w (length entry)) ≡ filled 64 (map placeOf (chainOf w)) entry)
+      × (numbersLeft w entry (partedOf w (length entry)) ≡ filled 64 (map partNumber (chainOf w)) entry)
   unfolding partedOf numbersLeft
   word-parted w g h =
       let told : partedOf w (length entry) ≡ parted.Chain (weight w) (length (chainOf w)) =
@@ -85,27 +85,27 @@ module _ (n : ℕ) (c : List Part) (chain : ChainOf n c) (fits : n < 2 ^ 64) whe
   summed = omega (arith, chain .sums)
 
   -- Its record gets its sum.
-  pub chain-judged : judgedOf (map placeOf c) ≡ judged.Sum n
+  pub chain-judged : judgedOf (map partNumber c) ≡ judged.Sum n
   chain-judged =
-      judged-sum (map placeOf c) n .1
+      judged-sum (map partNumber c) n .1
       (record {
-        few = omega (arith, length-map c placeOf, parts-bound n 64 c chain fits);
-        known = in-table (map placeOf c) .0 (places-known c summed);
-        chain = rw (parts-of-places c summed) chain;
+        few = omega (arith, length-map c partNumber, parts-bound n 64 c chain fits);
+        known = in-table (map partNumber c) .0 (numbers-known c summed);
+        chain = rw (parts-of-numbers c summed) chain;
         fits = fits;
       })
 
   module _ (entry : List ℕ) (room : 64 ≤ length entry) where
     -- Its record is written as its word.
     pub chain-written :
-        (writtenOf (map placeOf c) (length entry) ≡ written.Letters (length (wordOf c)))
-        × (lettersLeft (map placeOf c) entry (writtenOf (map placeOf c) (length entry)) ≡ filled 64 (wordOf c) entry)
-    chain-written = rw (parts-of-places c summed) at (record-written entry room (map placeOf c) n chain-judged)
+        (writtenOf (map partNumber c) (length entry) ≡ written.Letters (length (wordOf c)))
+        × (lettersLeft (map partNumber c) entry (writtenOf (map partNumber c) (length entry)) ≡ filled 64 (wordOf c) entry)
+    chain-written = rw (parts-of-numbers c summed) at (record-written entry room (map partNumber c) n chain-judged)
 
     -- Its word is taken apart into its record.
     pub chain-parted :
         (partedOf (wordOf c) (length entry) ≡ parted.Chain n (length c))
-        × (numbersLeft (wordOf c) entry (partedOf (wordOf c) (length entry)) ≡ filled 64 (map placeOf c) entry)
+        × (numbersLeft (wordOf c) entry (partedOf (wordOf c) (length entry)) ≡ filled 64 (map partNumber c) entry)
     chain-parted =
         let e : weight (wordOf c) ≡ n = weight-wordOf c (chain .chained) ∙ chain .sums in
         rw (chain-word-chain c (chain .chained), e) at (word-parted entry room (wordOf c) (word-reads c) (rw e fits))

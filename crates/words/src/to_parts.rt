@@ -12,7 +12,7 @@ ghost use Rattle.chains.specs.Chains.{value};
 ghost use Rattle.chains.specs.Words.{reads, chainOf};
 ghost use Rattle.chains.specs.Weight.{weight};
 ghost use Rattle.lent.specs.Lent.{filled};
-ghost use Rattle.parts.specs.Parts.{placeOf};
+ghost use Rattle.parts.specs.Parts.{partNumber};
 
 // How many parts a word marks.
 pub fn count_parts(letters: &[u8]) -> usize
@@ -30,7 +30,7 @@ pub fn count_parts(letters: &[u8]) -> usize
 
 // The number of a part below 2^64; for a larger one any number will do.
 fn number_at(a: u64, b: u64) -> u16
-    ensures { λ r. ⌜ (value (record { a = a; b = b }) < 2 ^ 64 → r ≡ placeOf (record { a = a; b = b })) ⌝ }
+    ensures { λ r. ⌜ (value (record { a = a; b = b }) < 2 ^ 64 → r ≡ partNumber (record { a = a; b = b })) ⌝ }
 {
     match parts::number_of(a, b) {
         Number::At(at) => at,
@@ -44,7 +44,7 @@ fn number_at(a: u64, b: u64) -> u16
 fn store_numbers(letters: &[u8], places: &mut [u16], k: usize)
     requires { ⌜ (reads true (now letters) ≡ true) × (weight (now letters) < 2 ^ 64)
         × (k ≡ length (chainOf (now letters))) × (k ≤ length (now places)) ⌝ }
-    ensures { λ _. ⌜ now (places .exit) ≡ map placeOf (chainOf (now (letters .entry))) ++ drop k (now (places .entry)) ⌝ }
+    ensures { λ _. ⌜ now (places .exit) ≡ map partNumber (chainOf (now (letters .entry))) ++ drop k (now (places .entry)) ⌝ }
 {
     let mut a: u64 = 0;
     let mut b: u64 = 0;
@@ -65,7 +65,7 @@ fn store_numbers(letters: &[u8], places: &mut [u16], k: usize)
 pub fn fill_places(letters: &[u8], places: &mut [u16], k: usize)
     requires { ⌜ (reads true (now letters) ≡ true) × (weight (now letters) < 2 ^ 64)
         × (k ≡ length (chainOf (now letters))) × (64 ≤ length (now places)) ⌝ }
-    ensures { λ _. ⌜ now (places .exit) ≡ filled 64 (map placeOf (chainOf (now (letters .entry)))) (now (places .entry)) ⌝ }
+    ensures { λ _. ⌜ now (places .exit) ≡ filled 64 (map partNumber (chainOf (now (letters .entry)))) (now (places .entry)) ⌝ }
 {
     lent::clear_u16(&mut places[0..64]);
     store_numbers(letters, places, k);

@@ -4,7 +4,8 @@ use native.Mathlib.Omega.{arith}
 use borrow.Author.Needs.{needs}
 use Rattle.best.specs.Chosen.{limitsOf, pricesOf}
 use Rattle.best.specs.Choosing.{by-word, by-nothing}
-use Rattle.best.specs.Placing.{little-scratch, little-places, none-served, word-served}
+use Rattle.lent.specs.LentLaws.{little-scratch, little-places}
+use Rattle.best.specs.Placing.{little, none-served, word-served}
 use Rattle.best.proofs.best_chain.Statement.{statement}
 use Rattle.best.proofs.best_chain.Tie as tie
 
@@ -47,8 +48,8 @@ pub best-chain-spec : {M : Type 1} → statement M
 best-chain-spec =
     tie.close
     (tie.spec
-    (λ c. little-scratch _ _ _ _ (c .if1 .taken))
-    (λ c. little-places _ _ _ _ (c .before .if1 .left) (c .if2 .taken))
+    (λ c. little _ _ _ _ (little-scratch 64 _ _ (c .if1 .taken)))
+    (λ c. little _ _ _ _ (little-places 64 _ _ (c .if2 .taken)))
     (λ c. search needs)
     (λ c κs. search needs)
     (λ c. search needs)

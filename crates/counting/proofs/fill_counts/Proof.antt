@@ -1,4 +1,4 @@
--- `fill_counts` meets its contract: a scratch of 5,248 numbers has room for the rows from 0 on, and the first cell of the table has
+-- `fill_counts` meets its contract: a scratch of the size asked for has room for the rows from 0 on, and the first cell of the table has
 -- the count, but for the number 0.
 use mathlib.Core.Path.{_≡_, refl, sym, ap, _∙_}
 use mathlib.Core.List.{List}
@@ -6,12 +6,13 @@ use Prim.Native.Nat.{ℕ, _≤_}
 use native.Mathlib.Omega.{arith}
 use lib.ListN.{length}
 use borrow.Author.Needs.{needs}
+use Rattle.counting.specs.TableLaws.{counted-served, counted-refused}
+use Rattle.lent.specs.Lent.{scratchSize}
 use Rattle.chains.specs.Listing.{count}
 use Rattle.chains.specs.Counts.{count-0}
-use Rattle.grid.specs.Grid.{scratchSize}
 use Rattle.counting.specs.declared.Counted.the-variants.{Count}
 use Rattle.counting.specs.Table.{CountsIn, count-in}
-use Rattle.counting.specs.TableCount.{countedOf, TableAsked, counted-served, counted-refused}
+use Rattle.counting.specs.TableCount.{countedOf, TableAsked}
 use Rattle.counting.proofs.fill_counts.Statement.{statement}
 use Rattle.counting.proofs.fill_counts.Tie as tie
 
@@ -20,9 +21,9 @@ returns c =
     (sym (counted-refused _ _ (c .if1 .taken)), record { there = λ h. absurd (omega (arith, h, c .if1 .taken)); untouched = λ h. refl })
 
 served : {n k : ℕ} {entry l : List ℕ} → scratchSize ≤ length entry → CountsIn n entry l → k ≡ count n
-    → (Count k ≡ countedOf n (length entry)) × TableAsked n entry l
+    → (Count k ≡ countedOf n entry) × TableAsked n entry l
 served {n} {entry = entry} h f e =
-    (ap Count e ∙ sym (counted-served n (length entry) h), record { there = λ k. f; untouched = λ k. absurd (omega arith) })
+    (ap Count e ∙ sym (counted-served n entry h), record { there = λ k. f; untouched = λ k. absurd (omega arith) })
 
 returns-2 : tie.Need-returns-2
 returns-2 c =

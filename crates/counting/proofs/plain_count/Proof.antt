@@ -2,8 +2,8 @@
 use mathlib.Core.Path.{sym, ap, _∙_}
 use native.Mathlib.Omega.{arith}
 use borrow.Author.Needs.{needs}
+use Rattle.counting.specs.PlainLaws.{plain-served, plain-refused}
 use Rattle.counting.specs.declared.Counted.the-variants.{Count}
-use Rattle.counting.specs.PlainCount.{plain-served, plain-refused}
 use Rattle.counting.proofs.plain_count.Statement.{statement}
 use Rattle.counting.proofs.plain_count.Tie as tie
 

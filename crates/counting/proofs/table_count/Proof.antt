@@ -1,9 +1,9 @@
 -- `table_count` meets its contract: the answer is that of `fill_counts`, and it tells whether there is a table to be zeroed.
 use mathlib.Core.Path.{sym, ap, _∙_}
 use borrow.Author.Needs.{needs}
+use Rattle.lent.specs.LentLaws.{refused-untouched}
+use Rattle.counting.specs.TableLaws.{counted-served, counted-refused, told-count, told-refused, asked-still-room, asked-cleared}
 use Rattle.counting.specs.declared.Counted.the-variants.{Count}
-use Rattle.counting.specs.TableCount.{counted-served, counted-refused, after-refused, told-count, told-refused}
-use Rattle.counting.specs.TableCount.{asked-still-room, asked-cleared}
 use Rattle.counting.proofs.table_count.Statement.{statement}
 use Rattle.counting.proofs.table_count.Tie as tie
 
@@ -11,7 +11,7 @@ returns : tie.Need-returns
 returns c =
     let f = c .before .before .before .before in
     let small = told-refused _ _ (f .fill-counts .ensures .0) (c .enum-told .given .1) in
-    (sym (counted-refused _ _ small), f .fill-counts .ensures .1 .untouched small ∙ sym (after-refused _ small))
+    (sym (counted-refused _ _ small), f .fill-counts .ensures .1 .untouched small ∙ sym (refused-untouched _ small))
 
 part-clear-u64-end : tie.Need-part-clear-u64-end
 part-clear-u64-end c =

@@ -6,39 +6,28 @@ use Prim.Native.Nat.{ℕ, _<_}
 use borrow.Author.Needs.{needs}
 use borrow.Author.Tests.{lt-ltb, le-ltb}
 use lib.ListN.{length}
-use Rattle.grid.specs.Grid.{scratchSize, scratchLeft}
+use Rattle.lent.specs.Lent.{scratchLeft, tooLittle, Enough}
+use Rattle.lent.specs.LentLaws.{little-scratch, little-places, enough}
 use Rattle.lines.specs.Lines.{shapeOf, shapeCode}
 use Rattle.lines.specs.LineLaws.{refused-shape}
 use Rattle.lines.specs.declared.Shape.the-variants as shape
-use Rattle.frames.specs.Replies.{refusedAs, replyByShape, replyTo, replyOf, littleLent, repliedOf, answerTo, outLeft}
-use Rattle.frames.specs.Calls.{EnoughLent, Handled}
+use Rattle.frames.specs.Replies.{refusedAs, replyByShape, replyTo, replyOf, repliedOf, answerTo, outLeft}
+use Rattle.frames.specs.Calls.{Handled}
 use Rattle.frames.specs.declared.Replied.{Replied}
 use Rattle.frames.specs.declared.Replied.the-variants as replied
 use Rattle.frames.proofs.reply.Statement.{statement}
 use Rattle.frames.proofs.reply.Tie as tie
 
 module _ (line s out : List ℕ) where
-  little-scratch : length s < scratchSize → littleLent s out ≡ true
-  unfolding littleLent
-  little-scratch h = rw (lt-ltb (length s) scratchSize h)
-
-  little-out : length out < 514 → littleLent s out ≡ true
-  unfolding littleLent
-  little-out h = rw (lt-ltb (length out) 514 h, or-true)
-
-  refused-1 : littleLent s out ≡ true
-      → (replied.Refused 1 ≡ answerTo (littleLent s out) line) × ((out ≡ outLeft (littleLent s out) line out) × (s ≡ scratchLeft (littleLent s out) s))
+  refused-1 : tooLittle 514 s out ≡ true
+      → (replied.Refused 1 ≡ answerTo (tooLittle 514 s out) line) × ((out ≡ outLeft (tooLittle 514 s out) line out) × (s ≡ scratchLeft (tooLittle 514 s out) s))
   unfolding answerTo repliedOf outLeft scratchLeft
   refused-1 e = rw e (refl, (refl, refl))
 
-  enough : EnoughLent s out → littleLent s out ≡ false
-  unfolding littleLent
-  enough l = rw (le-ltb (length s) scratchSize (l .numbers), le-ltb (length out) 514 (l .room))
-
-  answered : (r : Replied) (s′ out′ : List ℕ) → EnoughLent s out → Handled (replyTo line) r s s′ out out′
-      → (r ≡ answerTo (littleLent s out) line) × ((out′ ≡ outLeft (littleLent s out) line out) × (s′ ≡ scratchLeft (littleLent s out) s))
+  answered : (r : Replied) (s′ out′ : List ℕ) → Enough 514 s out → Handled (replyTo line) r s s′ out out′
+      → (r ≡ answerTo (tooLittle 514 s out) line) × ((out′ ≡ outLeft (tooLittle 514 s out) line out) × (s′ ≡ scratchLeft (tooLittle 514 s out) s))
   unfolding answerTo outLeft replyOf scratchLeft
-  answered r s′ out′ l h = rw (enough l) (h .told .answer, (h .told .digits, h .zeroed))
+  answered r s′ out′ l h = rw (enough 514 s out l) (h .told .answer, (h .told .digits, h .zeroed))
 
 refused-line : (line : List ℕ) (number : ℕ) → shape.Refused number ≡ shapeCode (shapeOf line) → replyTo line ≡ refusedAs number
 unfolding replyTo replyByShape
@@ -47,12 +36,12 @@ refused-line line number e = rw (refused-shape (shapeOf line) number (sym e))
 returns : tie.Need-returns
 returns c =
     let s = c .before .before .before .before in
-    refused-1 _ _ _ (little-scratch (s .args .line .now) _ _ (c .if1 .taken))
+    refused-1 _ _ _ (little-scratch 514 _ _ (c .if1 .taken))
 
 returns-2 : tie.Need-returns-2
 returns-2 c =
     let s = c .before .before .before .before .before in
-    refused-1 _ _ _ (little-out (s .args .line .now) _ _ (c .if2 .taken))
+    refused-1 _ _ _ (little-places 514 _ _ (c .if2 .taken))
 
 serve-kind-requires : tie.Need-serve-kind-requires
 serve-kind-requires c κs =

@@ -10,7 +10,7 @@ use borrow.Author.Tests.{le-leb, lt-leb}
 use Rattle.chains.specs.Chains.{Part, value}
 use Rattle.parts.specs.declared.Number.the-variants.{At, None}
 use Rattle.parts.specs.Parts.{limit, numberOf}
-use Rattle.parts.specs.Numbers.{inside, rank, part-bounds, outside-over, inside-found, place-rank, number-none, number-at}
+use Rattle.parts.specs.Numbers.{inside, rank, part-bounds, outside-over, inside-found, number-rank, number-none, number-at}
 use Rattle.parts.proofs.number_of.Statement.{statement}
 use Rattle.parts.proofs.number_of.Tie as tie
 use Rattle.parts.proofs.number_of.Lts as lts
@@ -36,7 +36,7 @@ module _ (p : Part) (across : p .a ≤ 63) (upward : p .b ≤ 40) where
     low = inside-found p (omega arith) (omega arith) (le-leb (p .a + 1623 * p .b / 1024) 63 h) .0
 
     number : At (rank (p .a) (p .b)) ≡ numberOf p
-    number = ap At (sym (place-rank p low)) ∙ sym (number-at p low)
+    number = ap At (sym (number-rank p low)) ∙ sym (number-at p low)
 
 -- The products in a rank are small.
 abbrev Small : ℕ → ℕ → Type 0

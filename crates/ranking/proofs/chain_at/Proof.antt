@@ -1,20 +1,21 @@
 -- `chain_at` meets its contract: with enough lent the table is filled, and what stands at the position is given.
 use mathlib.Core.Path.{_∙_}
 use borrow.Author.Needs.{needs}
-use Rattle.counting.specs.TableCount.{told-count, told-refused}
+use Rattle.lent.specs.LentLaws.{little-scratch, little-places}
+use Rattle.counting.specs.TableLaws.{told-count, told-refused}
 use Rattle.ranking.specs.Services.{atPosition}
-use Rattle.ranking.proofs.Answers.{filled-table, filled-again, little, little-places, little-scratch, enough}
+use Rattle.ranking.proofs.Answers.{filled-table, filled-again, little, served}
 use Rattle.ranking.proofs.chain_at.Statement.{statement}
 use Rattle.ranking.proofs.chain_at.Tie as tie
 
 returns : tie.Need-returns
-returns c = little _ _ _ (little-places _ _ (c .if1 .taken))
+returns c = little _ _ _ (little-places 64 _ _ (c .if1 .taken))
 
 returns-2 : tie.Need-returns-2
 returns-2 c =
     let (answer, asked) = c .before .before .before .before .fill-counts .ensures in
     let small = told-refused _ _ answer (c .enum-told .given .1) in
-    let (refused, (places, scratch)) = little _ _ _ (little-scratch _ _ small) in
+    let (refused, (places, scratch)) = little _ _ _ (little-scratch 64 _ _ small) in
     (refused, (places, asked .untouched small ∙ scratch))
 
 give-at-requires : tie.Need-give-at-requires
@@ -34,7 +35,7 @@ returns-3 c =
     let (answer, asked) = f .fill-counts .ensures in
     let (room, number) = told-count _ _ answer (told .count .given .1) in
     let (given, (places, scratch)) = g .give-at .ensures in
-    enough _ _ _ _ _ _ room (f .before .before .if1 .left) given places (scratch ∙ filled-again asked room)
+    served _ _ _ _ _ _ room (f .before .before .if1 .left) given places (scratch ∙ filled-again asked room)
 
 pub chain-at-spec : {M : Type 1} → statement M
 chain-at-spec =

@@ -4,17 +4,18 @@ use mathlib.Core.Path.{sym, _∙_}
 use denote.Floats.{passes}
 use borrow.Author.Needs.{needs}
 use borrow.Author.Tests.{not-true, not-false}
+use Rattle.lent.specs.LentLaws.{little-scratch, little-places}
 use Rattle.ranking.specs.Outcomes.{of-weighed}
-use Rattle.ranking.proofs.Answers.{little, little-places, little-scratch, enough, enough-refused, next-bad, next-over}
+use Rattle.ranking.proofs.Answers.{little, served, served-refused, next-bad, next-over}
 use Rattle.ranking.proofs.Answers.{next-standing}
 use Rattle.ranking.proofs.next_chain.Statement.{statement}
 use Rattle.ranking.proofs.next_chain.Tie as tie
 
 returns : tie.Need-returns
-returns c = little _ _ _ (little-scratch _ _ (c .if1 .taken))
+returns c = little _ _ _ (little-scratch 64 _ _ (c .if1 .taken))
 
 returns-2 : tie.Need-returns-2
-returns-2 c = little _ _ _ (little-places _ _ (c .if2 .taken))
+returns-2 c = little _ _ _ (little-places 64 _ _ (c .if2 .taken))
 
 returns-3 : tie.Need-returns-3
 returns-3 c =
@@ -22,7 +23,7 @@ returns-3 c =
     let t = q .before .before in
     let room = t .before .before in
     let bad = sym (t .before .is-good .ensures) ∙ not-true (t .before .is-good .result) (t .if3 .taken) in
-    enough-refused _ _ _ _ _ _ (room .before .if1 .left) (room .if2 .left) (next-bad _ bad) (q .refuse .ensures .0) (q .refuse .ensures .1)
+    served-refused _ _ _ _ _ _ (room .before .if1 .left) (room .if2 .left) (next-bad _ bad) (q .refuse .ensures .0) (q .refuse .ensures .1)
 
 returns-4 : tie.Need-returns-4
 returns-4 c =
@@ -33,7 +34,7 @@ returns-4 c =
     let room = g .before in
     let good = passes _ (sym (g .is-good .ensures) ∙ not-false (g .is-good .result) (w .before .if3 .left)) in
     let over = next-over _ good (sym (w .weigh .ensures) ∙ t .enum-told .given .1) in
-    enough-refused _ _ _ _ _ _ (room .before .if1 .left) (room .if2 .left) over (q .refuse2 .ensures .0) (q .refuse2 .ensures .1)
+    served-refused _ _ _ _ _ _ (room .before .if1 .left) (room .if2 .left) over (q .refuse2 .ensures .0) (q .refuse2 .ensures .1)
 
 give-after-requires : tie.Need-give-after-requires
 give-after-requires c κs =
@@ -52,7 +53,7 @@ returns-5 c =
     let room = g .before in
     let good = passes _ (sym (g .is-good .ensures) ∙ not-false (g .is-good .result) (w .before .if3 .left)) in
     rw (next-standing _ _ good (sym (w .weigh .ensures) ∙ q .before .before .before .before .n .given .1))
-    (enough _ _ _ _ _ _ (room .before .if1 .left) (room .if2 .left)
+    (served _ _ _ _ _ _ (room .before .if1 .left) (room .if2 .left)
     (q .give-after .ensures .0)
     (q .give-after .ensures .1 .0)
     (q .give-after .ensures .1 .1))

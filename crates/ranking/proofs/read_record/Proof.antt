@@ -2,12 +2,12 @@
 use mathlib.Core.Path.{sym, _∙_}
 use native.Mathlib.Omega.{arith}
 use borrow.Author.Needs.{needs}
-use Rattle.ranking.proofs.Answers.{scratch-little, scratch-served, record-written, record-refused}
+use Rattle.ranking.proofs.Answers.{scratch-refused, scratch-served, record-written, record-refused}
 use Rattle.ranking.proofs.read_record.Statement.{statement}
 use Rattle.ranking.proofs.read_record.Tie as tie
 
 returns : tie.Need-returns
-returns c = scratch-little _ _ (c .if1 .taken)
+returns c = scratch-refused _ _ (c .if1 .taken)
 
 part-place-word-end : tie.Need-part-place-word-end
 part-place-word-end c =

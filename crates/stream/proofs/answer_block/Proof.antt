@@ -7,7 +7,8 @@ use borrow.Author.Needs.{needs}
 use borrow.Author.Tests.{not-true, not-false}
 use borrow.Rule.Slice.PartMut.{midOf, putMid}
 use lib.ListN.{length, take}
-use Rattle.lent.specs.Lent.{zeros, filled, cleared}
+use Rattle.lent.specs.LentLaws.{cleared}
+use Rattle.lent.specs.Lent.{zeros, filled, scratchSize}
 use Rattle.lines.specs.Stream.{unfinished}
 use Rattle.stream.specs.Answers.{Enough, Goes, BlockAnswer}
 use Rattle.stream.specs.Pieces.{Later, Keeps}
@@ -27,14 +28,14 @@ too-little block k kept scratch out n = record { answered = λ e. absurd (n e); 
 module _ (block : List ℕ) (k : ℕ) (keptEntry kept keptExit scratchEntry scratch part outEntry out : List ℕ) (r : Fed)
     (enough : Enough (length keptEntry) k (length scratchEntry) (length outEntry)) where
   done : Goes (take k keptEntry) block outEntry out (r .used) (r .written)
-      → Keeps (unfinished (take k keptEntry) (take (r .used) block)) keptEntry kept (r .kept) → Later 5248 scratchEntry scratch
-      → keptExit ≡ filled 515 (take (r .kept) kept) kept → part ≡ zeros (length (midOf 0 5248 scratch))
-      → BlockAnswer block k keptEntry keptExit scratchEntry (putMid 0 5248 scratch part) outEntry out r
+      → Keeps (unfinished (take k keptEntry) (take (r .used) block)) keptEntry kept (r .kept) → Later scratchSize scratchEntry scratch
+      → keptExit ≡ filled 515 (take (r .kept) kept) kept → part ≡ zeros (length (midOf 0 scratchSize scratch))
+      → BlockAnswer block k keptEntry keptExit scratchEntry (putMid 0 scratchSize scratch part) outEntry out r
   done g h l f z =
       record {
         answered = λ e. (
           record { goes = g; keeps = f ∙ kept-alone _ keptEntry kept (r .kept) h; count = h .count },
-          cleared 5248 scratchEntry scratch part (omega arith) (l .later) z,
+          cleared scratchSize scratchEntry scratch part (omega arith) (l .later) z,
         );
         untouched = λ n. absurd (n enough);
       }

@@ -9,7 +9,8 @@ use borrow.Author.Tests.{not-true, not-false}
 use borrow.Rule.Slice.PartMut.{midOf, putMid}
 use lib.ListN.{length, take}
 use lib.Seq.{length-take-le}
-use Rattle.lent.specs.Lent.{zeros, filled, cleared}
+use Rattle.lent.specs.LentLaws.{cleared}
+use Rattle.lent.specs.Lent.{zeros, filled, scratchSize}
 use Rattle.lines.specs.Stream.{lastLine}
 use Rattle.frames.specs.Replies.{replyOf}
 use Rattle.stream.specs.Answers.{Enough, EndAnswer}
@@ -28,16 +29,16 @@ module _ (kept : List ℕ) (k : ℕ) (scratch out : List ℕ) where
   too-little n = record { answered = λ e. absurd (n e); untouched = λ m. (refl, refl, refl) }
 
   module _ (enough : Enough (length kept) k (length scratch) (length out)) where
-    no-line : (part : List ℕ) → k ≡ 0 → part ≡ zeros (length (midOf 0 5248 scratch))
-        → EndAnswer kept k scratch (putMid 0 5248 scratch part) out out 0
+    no-line : (part : List ℕ) → k ≡ 0 → part ≡ zeros (length (midOf 0 scratchSize scratch))
+        → EndAnswer kept k scratch (putMid 0 scratchSize scratch part) out out 0
     unfolding lastLine
     no-line part h z = record {
-      answered = λ e. (rw h (none-written out), cleared 5248 scratch scratch part (omega arith) refl z);
+      answered = λ e. (rw h (none-written out), cleared scratchSize scratch scratch part (omega arith) refl z);
       untouched = λ n. absurd (n enough);
     }
 
     one-line : (scratchExit outExit : List ℕ) (n : ℕ) → (k ≡ 0 → ⊥) → Adds (replyOf (take (k - 0) kept)) 0 out outExit n
-        → scratchExit ≡ filled 5248 [] scratch → EndAnswer kept k scratch scratchExit out outExit n
+        → scratchExit ≡ filled scratchSize [] scratch → EndAnswer kept k scratch scratchExit out outExit n
     one-line scratchExit outExit n h a z =
         let l : 0 < length (take k kept) = omega (arith, length-take-le k kept (omega arith)) in
         record {

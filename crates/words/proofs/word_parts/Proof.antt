@@ -10,7 +10,7 @@ use borrow.Author.Tests.{lt-ltb, le-ltb, not-true, not-false}
 use Rattle.chains.specs.Words.{Word, reads, chainOf}
 use Rattle.chains.specs.Weight.{weight}
 use Rattle.lent.specs.Lent.{filled}
-use Rattle.parts.specs.Parts.{placeOf}
+use Rattle.parts.specs.Parts.{partNumber}
 use Rattle.words.specs.Answers.{weighedOf}
 use Rattle.words.specs.Conversions.{partedOf, numbersLeft}
 use Rattle.words.specs.declared.Parted.{Parted}
@@ -48,7 +48,7 @@ module _ (w : Word) (entry : List ℕ) where
       over e = told (Refused 10) entry (cc (le-ltb (length entry) 64 room, le-ltb (weight w) (2 ^ 64) (over-is (weight w) e))) refl
 
       chain : (n k : ℕ) (l : List ℕ) → Number n ≡ weighedOf w → n < 2 ^ 64 → k ≡ length (chainOf w)
-          → l ≡ filled 64 (map placeOf (chainOf w)) entry → Told w entry (Chain n k) l
+          → l ≡ filled 64 (map partNumber (chainOf w)) entry → Told w entry (Chain n k) l
       unfolding partedOf numbersLeft weighedOf
       chain n k l e f d =
           told (Chain n k) l (cc (le-ltb (length entry) 64 room, number-is (weight w) n e, lt-ltb (weight w) (2 ^ 64) (fits w n e f)))

@@ -6,8 +6,8 @@ use native.Mathlib.Nat.{sub-zero}
 use native.Mathlib.Omega.{arith}
 use borrow.Author.Needs.{needs}
 use lib.ListN.{length, take, length-take}
+use Rattle.lent.specs.Lent.{scratchSize}
 use Rattle.chains.specs.Best.{Prices, Limits}
-use Rattle.grid.specs.Grid.{scratchSize}
 use Rattle.ranking.specs.Services.{Outcome, refused, gives, lent, placesLeft}
 use Rattle.best.specs.Chosen.{bestOutcome, chosenOf}
 use Rattle.best.specs.declared.Chosen.{Chosen}

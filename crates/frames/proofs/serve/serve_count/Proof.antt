@@ -5,9 +5,11 @@ use Prim.Native.Nat.{ℕ, _%_, _^_, _≤_}
 use native.Mathlib.Omega.{arith}
 use borrow.Author.Needs.{needs}
 use lib.ListN.{length}
+use Rattle.counting.specs.TableLaws.{counted-served}
+use Rattle.lent.specs.Lent.{scratchSize, littleScratch, scratchLeft}
+use Rattle.lent.specs.LentLaws.{served-zeroed}
 use Rattle.chains.specs.Listing.{count}
-use Rattle.grid.specs.Grid.{scratchSize}
-use Rattle.counting.specs.TableCount.{countedOf, scratchAfter, counted-served, after-served}
+use Rattle.counting.specs.TableCount.{countedOf}
 use Rattle.counting.specs.declared.Counted.{Counted}
 use Rattle.counting.specs.declared.Counted.the-variants as counted
 use Rattle.lines.specs.Kinds.{counting}
@@ -21,17 +23,17 @@ use Rattle.frames.proofs.serve.serve_count.Statement.{statement}
 use Rattle.frames.proofs.serve.serve_count.Tie as tie
 
 -- The count of n was asked for with the scratch s, and a answered.
-module _ (s : List ℕ) (n : ℕ) (a : Counted) (room : scratchSize ≤ length s) (e : a ≡ countedOf n (length s)) where
+module _ (s : List ℕ) (n : ℕ) (a : Counted) (room : scratchSize ≤ length s) (e : a ≡ countedOf n s) where
   answer : a ≡ counted.Count (count n)
-  answer = e ∙ counted-served n (length s) room
+  answer = e ∙ counted-served n s room
 
-  count-handled : (line s′ out out′ : List ℕ) (x : ℕ) (r : Replied) → a ≡ counted.Count x → n ≡ field line 1 8 % 2 ^ 64 → s′ ≡ scratchAfter s
+  count-handled : (line s′ out out′ : List ℕ) (x : ℕ) (r : Replied) → a ≡ counted.Count x → n ≡ field line 1 8 % 2 ^ 64 → s′ ≡ scratchLeft (littleScratch s) s
       → Told (servedWith (countDigits x)) r out out′ → Handled (served counting line) r s s′ out out′
   unfolding served
   count-handled line s′ out out′ x r f read left told =
       let same : x ≡ count n = cc answer in
       let asked : n ≡ field line 1 8 = read ∙ field-fits line 1 8 (omega arith) in
-      record { told = rw (same, asked) at told; zeroed = left ∙ after-served s room }
+      record { told = rw (same, asked) at told; zeroed = left ∙ served-zeroed s room }
 
   not-refused : (x : ℕ) → a ≡ counted.Refused x → ⊥
   not-refused x f =

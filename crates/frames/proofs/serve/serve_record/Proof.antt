@@ -8,9 +8,10 @@ use borrow.Author.Needs.{needs}
 use borrow.Author.Tests.{le-ltb}
 use lib.Dec.{ltb}
 use lib.ListN.{length, length-map}
+use Rattle.lent.specs.LentLaws.{scratch-enough}
+use Rattle.lent.specs.Lent.{scratchSize, littleScratch, scratchLeft}
 use Rattle.chains.specs.Bounds.{parts-bound}
-use Rattle.grid.specs.Grid.{scratchSize, scratchLeft}
-use Rattle.parts.specs.Parts.{placeOf}
+use Rattle.parts.specs.Parts.{partNumber}
 use Rattle.ranking.specs.Services.{Outcome, refused, gives, lentScratch, placedOf, ofRecord}
 use Rattle.ranking.specs.Outcomes.{record-gives}
 use Rattle.ranking.specs.declared.Placed.{Placed}
@@ -28,11 +29,11 @@ use Rattle.frames.proofs.serve.serve_record.Tie as tie
 module _ (l s : List ℕ) (x : Placed) (room : scratchSize ≤ length s) (e : x ≡ placedOf (lentScratch s (ofRecord l))) where
   own : x ≡ placedOf (ofRecord l)
   unfolding lentScratch
-  own = rw (le-ltb (length s) scratchSize room) at e
+  own = rw (scratch-enough s room) at e
 
-  at-place : (n i : ℕ) → x ≡ placed.At n i → (length l ≤ 64) × (chainReply (ofRecord l) ≡ servedWith (chainDigits n i l))
+  at-position : (n i : ℕ) → x ≡ placed.At n i → (length l ≤ 64) × (chainReply (ofRecord l) ≡ servedWith (chainDigits n i l))
   unfolding placedOf chainReply
-  at-place n i f = go (ofRecord l) refl
+  at-position n i f = go (ofRecord l) refl
     where
       go : (o : Outcome) → ofRecord l ≡ o → (length l ≤ 64) × (chainReply (ofRecord l) ≡ servedWith (chainDigits n i l))
       go (refused r) g =
@@ -43,7 +44,7 @@ module _ (l s : List ℕ) (x : Placed) (room : scratchSize ≤ length s) (e : x 
           let a = rw g at own in
           let number : m ≡ n = cc a in
           let short = parts-bound m 64 c chain fits in
-          (omega (arith, ap length numbers, length-map c placeOf), rw (g, numbers) (cc a))
+          (omega (arith, ap length numbers, length-map c partNumber), rw (g, numbers) (cc a))
 
   not-placed : (r : ℕ) → x ≡ placed.Refused r → chainReply (ofRecord l) ≡ refusedAs r
   unfolding placedOf chainReply
@@ -57,11 +58,11 @@ module _ (l s : List ℕ) (x : Placed) (room : scratchSize ≤ length s) (e : x 
           let z : _≡_ {A = ℕ} 0 1 = cc (rw g at own) in
           absurd (omega arith)
 
-  handled : (y : Reply) (r : Replied) (s′ out out′ : List ℕ) → chainReply (ofRecord l) ≡ y → s′ ≡ scratchLeft (ltb (length s) scratchSize) s
+  handled : (y : Reply) (r : Replied) (s′ out out′ : List ℕ) → chainReply (ofRecord l) ≡ y → s′ ≡ scratchLeft (littleScratch s) s
       → Told y r out out′ → Handled (chainReply (ofRecord l)) r s s′ out out′
   unfolding scratchLeft
   handled y r s′ out out′ f left told =
-      record { told = rw f told; zeroed = rw (le-ltb (length s) scratchSize room) at left }
+      record { told = rw f told; zeroed = rw (scratch-enough s room) at left }
 
 part-read-record-end : tie.Need-part-read-record-end
 part-read-record-end c =
@@ -80,7 +81,7 @@ tell-chain-requires c κs =
     let m = c .before .before .before .before in
     let q = m .before .before .before .before in
     let s = q .before .before .before .before .before .before .before .before .before .before in
-    (omega arith, at-place _ (s .args .scratch .now) _ (s .pre .0 .numbers) (q .read-record .ensures .0) _ _ (m .n .given .1) .0)
+    (omega arith, at-position _ (s .args .scratch .now) _ (s .pre .0 .numbers) (q .read-record .ensures .0) _ _ (m .n .given .1) .0)
 
 returns : tie.Need-returns
 unfolding served bytesIn
@@ -93,7 +94,7 @@ returns c =
     let w = read-all 2 _ _ _ _ (l .numbers-of .ensures .0) (l .numbers-of .ensures .1) recording (s .pre .1) (omega arith) (omega arith) in
     rw (← w)
     (handled _ _ _ (s .pre .0 .numbers) (q .read-record .ensures .0) _ _ _ _ _
-    (at-place _ (s .args .scratch .now) _ (s .pre .0 .numbers) (q .read-record .ensures .0) _ _ (m .n .given .1) .1) (q .read-record .ensures .1) (t .tell-chain .ensures))
+    (at-position _ (s .args .scratch .now) _ (s .pre .0 .numbers) (q .read-record .ensures .0) _ _ (m .n .given .1) .1) (q .read-record .ensures .1) (t .tell-chain .ensures))
 
 returns-2 : tie.Need-returns-2
 unfolding served bytesIn

@@ -1,7 +1,8 @@
 -- `serve_refusal` zeroes the scratch and tells the number.
 use mathlib.Core.Path.{refl}
 use borrow.Author.Needs.{needs}
-use Rattle.lent.specs.Lent.{cleared}
+use Rattle.lent.specs.Lent.{scratchSize}
+use Rattle.lent.specs.LentLaws.{cleared}
 use Rattle.frames.proofs.serve.serve_refusal.Statement.{statement}
 use Rattle.frames.proofs.serve.serve_refusal.Tie as tie
 
@@ -13,7 +14,7 @@ returns c =
     let l = s .args .scratch .now in
     record {
       told = t .tell-refusal .ensures;
-      zeroed = cleared 5248 l l (z .clear-u64 .last .0) (s .pre .numbers) refl (z .clear-u64 .ensures);
+      zeroed = cleared scratchSize l l (z .clear-u64 .last .0) (s .pre .numbers) refl (z .clear-u64 .ensures);
     }
 
 pub serve-refusal-spec : {M : Type 1} → statement M

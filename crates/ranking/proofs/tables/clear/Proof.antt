@@ -1,7 +1,8 @@
--- `clear` meets its contract: the first 5,248 come back as zeros, and the rest was not lent on.
+-- `clear` meets its contract: the first numbers come back as zeros, and the rest was not lent on.
 use mathlib.Core.Path.{refl}
 use borrow.Author.Needs.{needs}
-use Rattle.lent.specs.Lent.{cleared}
+use Rattle.lent.specs.Lent.{scratchSize}
+use Rattle.lent.specs.LentLaws.{cleared}
 use Rattle.ranking.proofs.tables.clear.Statement.{statement}
 use Rattle.ranking.proofs.tables.clear.Tie as tie
 
@@ -9,7 +10,7 @@ returns : tie.Need-returns
 returns c =
     let s = c .before .before .before .before .before in
     let l = s .args .scratch .now in
-    cleared 5248 l l (c .before .before .clear-u64 .last .0) (s .pre) refl (c .before .before .clear-u64 .ensures)
+    cleared scratchSize l l (c .before .before .clear-u64 .last .0) (s .pre) refl (c .before .before .clear-u64 .ensures)
 
 pub clear-spec : {M : Type 1} → statement M
 clear-spec =

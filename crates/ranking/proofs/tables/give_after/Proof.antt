@@ -2,7 +2,7 @@
 use mathlib.Core.Path.{_∙_}
 use native.Mathlib.Omega.{arith}
 use borrow.Author.Needs.{needs}
-use Rattle.counting.specs.TableCount.{told-count, told-refused}
+use Rattle.counting.specs.TableLaws.{told-count, told-refused}
 use Rattle.ranking.proofs.Walked.{next-fits}
 use Rattle.ranking.proofs.Answers.{filled-table, filled-again}
 use Rattle.ranking.proofs.tables.give_after.Statement.{statement}

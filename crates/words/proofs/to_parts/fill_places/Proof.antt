@@ -8,11 +8,12 @@ use lib.Dec.{T}
 use lib.ListN.{length, drop, length-map}
 use borrow.Author.Needs.{needs}
 use borrow.Rule.Slice.PartMut.{midOf, putMid}
+use Rattle.lent.specs.LentLaws.{length-filled, cleared, over-zeros}
 use Rattle.chains.specs.Words.{Word, reads, chainOf}
 use Rattle.chains.specs.Weight.{weight}
 use Rattle.chains.specs.Bounds.{letters-bound, parts-letters}
-use Rattle.lent.specs.Lent.{zeros, filled, length-filled, cleared, over-zeros}
-use Rattle.parts.specs.Parts.{placeOf}
+use Rattle.lent.specs.Lent.{zeros, filled}
+use Rattle.parts.specs.Parts.{partNumber}
 use Rattle.words.proofs.to_parts.fill_places.Statement.{statement}
 use Rattle.words.proofs.to_parts.fill_places.Tie as tie
 
@@ -30,10 +31,10 @@ module _
     inside : k ≤ length (putMid 0 64 entry ys)
     inside = rw back (omega (arith, few, length-filled 64 [] entry (omega arith) room))
 
-    all : (l : List ℕ) → l ≡ map placeOf (chainOf w) ++ drop k (putMid 0 64 entry ys) → l ≡ filled 64 (map placeOf (chainOf w)) entry
+    all : (l : List ℕ) → l ≡ map partNumber (chainOf w) ++ drop k (putMid 0 64 entry ys) → l ≡ filled 64 (map partNumber (chainOf w)) entry
     all l e =
-        let n : k ≡ length (map placeOf (chainOf w)) = count ∙ sym (length-map (chainOf w) placeOf) in
-        (rw (back, n) at e) ∙ over-zeros 64 (map placeOf (chainOf w)) entry (omega (arith, few))
+        let n : k ≡ length (map partNumber (chainOf w)) = count ∙ sym (length-map (chainOf w) partNumber) in
+        (rw (back, n) at e) ∙ over-zeros 64 (map partNumber (chainOf w)) entry (omega (arith, few))
 
 pub fill-places-spec : {M : Type 1} → statement M
 fill-places-spec =

@@ -4,7 +4,7 @@ use Prim.Native.Nat.{ℕ, _<_}
 use native.Mathlib.Omega.{arith}
 use borrow.Author.Needs.{needs}
 use Rattle.chains.specs.Chains.{Part, value}
-use Rattle.parts.specs.Parts.{limit, placeOf, numberOf}
+use Rattle.parts.specs.Parts.{limit, partNumber, numberOf}
 use Rattle.parts.specs.Numbers.{number-at}
 use Rattle.parts.specs.declared.Number.{Number}
 use Rattle.parts.specs.declared.Number.the-variants.{At, None}
@@ -12,7 +12,7 @@ use Rattle.words.proofs.to_parts.number_at.Statement.{statement}
 use Rattle.words.proofs.to_parts.number_at.Tie as tie
 
 module _ (p : Part) (x : Number) (told : x ≡ numberOf p) (h : value p < limit) where
-  found : (n : ℕ) → x ≡ At n → n ≡ placeOf p
+  found : (n : ℕ) → x ≡ At n → n ≡ partNumber p
   found n e = cc (number-at p h)
 
   never : {A : Type 0} → x ≡ None → A

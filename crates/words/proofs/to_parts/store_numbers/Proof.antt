@@ -15,7 +15,7 @@ use borrow.Author.Needs.{needs}
 use Rattle.chains.specs.Chains.{Part, value, total}
 use Rattle.chains.specs.Words.{Word, chainFrom, chainOf, reads, someLeft}
 use Rattle.chains.specs.Weight.{weight, total-chainFrom, total-chainOf}
-use Rattle.parts.specs.Parts.{limit, placeOf}
+use Rattle.parts.specs.Parts.{limit, partNumber}
 use Rattle.parts.specs.Numbers.{part-bounds}
 use Rattle.words.proofs.Marks.{taken, point, chain-step, marks, marks-chain, part-left}
 use Rattle.words.proofs.to_parts.store_numbers.Statement.{statement}
@@ -31,7 +31,7 @@ record Walk (w : Word) (behind : List ℕ) (size : ℕ) (v : Word) (l : List ℕ
   to-come : left ≡ marks v
   same : length l ≡ size
   room : left ≤ size
-  stored : drop left l ≡ map placeOf met ++ behind
+  stored : drop left l ≡ map partNumber met ++ behind
 
 begin : (w : Word) (l : List ℕ) (k : ℕ) → T (reads true w) → k ≡ length (chainOf w) → k ≤ length l
     → Walk w (drop k l) (length l) w l 0 0 k
@@ -56,9 +56,9 @@ record Bounds (l : List ℕ) (x a b left : ℕ) : Type 0 where
   upward : b < 41
 
 -- A store before what is stored: the number of a point that is a part stays, any other is in a place that comes later.
-store-one : (r : ℕ) → r ≤ 1 → (l : List ℕ) (left : ℕ) → 0 < left → left ≤ length l → (n : ℕ) (p : Part) → n ≡ placeOf p
-    → (met : List Part) (behind : List ℕ) → drop left l ≡ map placeOf met ++ behind
-    → drop (left - r) (set l (left - 1) n) ≡ map placeOf (replicate r p ++ met) ++ behind
+store-one : (r : ℕ) → r ≤ 1 → (l : List ℕ) (left : ℕ) → 0 < left → left ≤ length l → (n : ℕ) (p : Part) → n ≡ partNumber p
+    → (met : List Part) (behind : List ℕ) → drop left l ≡ map partNumber met ++ behind
+    → drop (left - r) (set l (left - 1) n) ≡ map partNumber (replicate r p ++ met) ++ behind
 store-one zero h l left more room n p e met behind s = rw sub-zero (drop-set-lt left l (left - 1) n (omega arith) ∙ s)
 store-one (suc zero) h l left more room n p e met behind s =
     let i : suc (left - 1) ≡ left = omega arith in
@@ -87,7 +87,7 @@ module _
     bounds : Bounds l (getD w i 0) a b left
     bounds = omega (arith, some .0, taken (here .reader) (getD w i 0) (drop (suc i) w) (here .read) .0, part-bounds (point a b) small)
 
-    next : (n : ℕ) → (value (point a b) < limit → n ≡ placeOf (point a b))
+    next : (n : ℕ) → (value (point a b) < limit → n ≡ partNumber (point a b))
         → Walk w behind size (drop (i + 1) w) (set l (left - 1) n) (a + (1 - getD w i 0 / 2)) (b + getD w i 0 / 2) (left - getD w i 0 % 2)
     unfolding marks
     next n e =
@@ -106,12 +106,12 @@ module _
 
 -- Where no letter is left.
 all : {w : Word} {behind : List ℕ} {size : ℕ} {l : List ℕ} {a b left i : ℕ} → Walk w behind size (drop i w) l a b left → length w ≤ i
-    → l ≡ map placeOf (chainOf w) ++ behind
+    → l ≡ map partNumber (chainOf w) ++ behind
 unfolding marks chainFrom
 all {w} {behind} {size} {l} {a} {b} {left} {i} c h =
     let d : Walk w behind size [] l a b left = rw (drop-of-length-le w h) at c in
     let none : left ≡ 0 = d .to-come in
-    rw none at (d .stored) ∙ ap (λ (m : List Part). map placeOf m ++ behind) (d .chain)
+    rw none at (d .stored) ∙ ap (λ (m : List Part). map partNumber m ++ behind) (d .chain)
 
 -- ---- the function
 
