@@ -8,7 +8,7 @@ use mathlib.Core.Path.{_≡_, refl, _∙_}
 use mathlib.Core.Logic.{_≢_}
 use mathlib.Core.Bool.{Bool, true, false}
 use mathlib.Core.List.{List, _∷_}
-use Prim.Native.Nat.{ℕ, zero, suc, _+_, _*_, _-_, _/_, _%_, _≤_, _<_, max}
+use Prim.Native.Nat.{ℕ, zero, suc, _+_, _*_, _-_, _/_, _%_, _^_, _≤_, _<_, max}
 use lib.ListN.{length, length-append, length-map}
 use native.Mathlib.Omega.{arith}
 use Rattle.chains.specs.Words.{Word}
@@ -149,6 +149,11 @@ count-0 = count-ways 0 ∙ ways-at-0-free
 
 pub count-1 : count 1 ≡ 1
 count-1 = omega (arith, count-pos 1, count-at-most 1 (omega arith))
+
+-- The count fits in 64 bits where n does.
+pub count-fits : (n : ℕ) → n < 2 ^ 64 → count n < 2 ^ 64
+count-fits zero f = omega (arith, count-0)
+count-fits (suc n) f = omega (arith, count-at-most (suc n) (omega arith))
 
 -- The first line, which remainders 0 and 1 share, without the difference.
 pub count-first-line : (U r : ℕ) → 1 ≤ U → r ≤ 1 → count (6 * U + r) + count U ≡ count (2 * U) + count (3 * U)

@@ -17,7 +17,7 @@ use Rattle.chains.specs.Listing.{count, position}
 use Rattle.chains.specs.Best.{Prices, Limits, price}
 use Rattle.chains.specs.BestOfAll.{bestOf}
 use Rattle.chains.specs.Bounds.{parts-bound}
-use Rattle.chains.specs.Counts.{count-0, count-at-most}
+use Rattle.chains.specs.Counts.{count-fits}
 use Rattle.chains.specs.PositionsOfChains.{at-position}
 use Rattle.parts.specs.Parts.{partNumber}
 use Rattle.words.specs.RecordLaws.{InTable, judged-sum}
@@ -245,12 +245,8 @@ unfolding InTable
 numbers-fit n c h f = λ i l. omega (arith, judged-sum (map partNumber c) n .0 (chain-judged n c h f) .known i l)
 
 -- Its position, and the one after it.
-count-low : (n : ℕ) → n < 2 ^ 64 → count n < 2 ^ 64
-count-low zero f = omega (arith, count-0)
-count-low (suc n) f = omega (arith, count-at-most (suc n) (omega arith))
-
 pub position-low : (n : ℕ) (c : List Part) → ChainOf n c → n < 2 ^ 64 → position n c + 1 < 2 ^ 64
-position-low n c h f = omega (arith, at-position n c h .0, count-low n f)
+position-low n c h f = omega (arith, at-position n c h .0, count-fits n f)
 
 -- Whatever follows, as the price does.
 pub reply-read : (n : ℕ) (c : List Part) (rest : List ℕ) → ChainOf n c → n < 2 ^ 64

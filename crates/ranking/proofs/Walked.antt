@@ -14,8 +14,7 @@ use lib.Seq.{drop-cons}
 use Rattle.chains.specs.Words.{Word, someLeft, reads}
 use Rattle.chains.specs.Listing.{wordsIn, atRest, byThird, wordsAt, listOf, count, countBefore}
 use Rattle.chains.specs.Weight.{weight}
-use Rattle.chains.specs.Counts.{ways, count-ways, ways-at-0-free, ways-at-0-after-a, ways-at-most, ways-rem-2, count-0}
-use Rattle.chains.specs.Counts.{count-at-most}
+use Rattle.chains.specs.Counts.{ways, count-ways, ways-at-0-free, ways-at-0-after-a, ways-at-most, ways-rem-2, count-fits}
 use Rattle.chains.specs.Members.{member-words}
 use Rattle.chains.specs.Positions.{words-at-position, word-at-position, position-rise-a, position-rise-b, word-rise-a, word-rise-b}
 use Rattle.grid.specs.Rests.{restAt, rest-origin, rest-right, rest-up, point-low}
@@ -54,11 +53,6 @@ last-word f m i e h =
 
 -- ---- from a word to its position
 
--- The count fits where n does.
-count-low : (n : ℕ) → n < 2 ^ 64 → count n < 2 ^ 64
-count-low zero f = omega (arith, count-0)
-count-low (suc n) f = omega (arith, count-at-most (suc n) (omega arith))
-
 -- Where two letters are left, or more, the rest is at least 2.
 two-left : (f : Bool) (m : ℕ) (w : Word) → List·Memᴰ w (wordsAt f m) → 2 ≤ length w → 2 ≤ m
 unfolding wordsAt wordsIn atRest
@@ -89,7 +83,7 @@ rank-start n letters f i =
       reader = true;
       member = rw rest-origin i;
       counted = rw rest-origin (omega arith);
-      fits = omega (arith, word-at-position n letters i .0, count-low n f);
+      fits = omega (arith, word-at-position n letters i .0, count-fits n f);
     }
 
 module _ (n : ℕ) (letters : Word) (a b before : ℕ) (w : RankWalked n letters a b before) where
@@ -136,7 +130,7 @@ module _ (n : ℕ) (letters : Word) (a b before : ℕ) (w : RankWalked n letters
 
 -- There is room for the position after a word's.
 pub next-fits : (n : ℕ) (w : Word) → n < 2 ^ 64 → List·Memᴰ w (listOf n) → countBefore w (listOf n) + 1 < 2 ^ 64
-next-fits n w f i = omega (arith, word-at-position n w i .0, count-low n f)
+next-fits n w f i = omega (arith, word-at-position n w i .0, count-fits n f)
 
 -- ---- from a position to its word
 
