@@ -8,7 +8,7 @@ mod six_lines;
 ghost use mathlib.Core.Path.{_≡_};
 ghost use Rattle.lent.specs.Lent.{littleScratch, scratchLeft};
 ghost use Rattle.counting.specs.PlainCount.{plainOf};
-ghost use Rattle.counting.specs.TableCount.{countedOf, TableAsked};
+ghost use Rattle.counting.specs.TableCount.{countedOf, tableLeft};
 
 // What a count answers: the count, or the number of the refusal.
 pub enum Counted {
@@ -31,7 +31,7 @@ pub fn plain_count(n: u64) -> Counted
 // is left, so the number 0 is answered apart: it has one chain, the empty one.
 pub fn fill_counts(n: u64, scratch: &mut [u64]) -> Counted
     ensures { λ r. ⌜ r ≡ countedOf n (now (scratch .entry)) ⌝ }
-    ensures { λ _. ⌜ TableAsked n (now (scratch .entry)) (now (scratch .exit)) ⌝ }
+    ensures { λ _. ⌜ now (scratch .exit) ≡ tableLeft n (now (scratch .entry)) ⌝ }
 {
     if scratch.len() < lent::SCRATCH {
         return Counted::Refused(1);

@@ -6,7 +6,7 @@
 // a row, hold the remainders by three of all its rests, so no cell is divided, and a bit of a mask makes a factor and no branch. A
 // row is 128 numbers: 64 columns of two.
 ghost use Prim.Native.Nat.{_+_, _*_, _^_, _≤_, _<_};
-ghost use Rattle.grid.specs.Grid.{RowAsked, RowFilled, RowsAsked, RowsFilled};
+ghost use Rattle.grid.specs.Grid.{RowAsked, RowFilled, RowKept, RowsAsked, RowsFilled, RowsKept};
 ghost use Rattle.counting.specs.Table.{countCell, LiveAsked};
 
 // How many columns of a row are live, where m is the rest of its first column: as many as m has bits.
@@ -19,16 +19,14 @@ fn live_columns(m: u64) -> usize
 // The live columns below `top`, from there down. The number above counts for both readers where the remainder by three of the
 // column's rest is 1, and where it is 0 for the free reader alone.
 //
-// Bit a of `ones` is 1 where the remainder in column a is 1: the rest is three times its third and the remainder, so the last bits
-// of rest and third differ where the remainder is odd. Bit a of `zeros` is 1 where it is 0: the rest is twice the rest right of it
-// and bit a of m, so where the remainder is not 1, it is 0 if bit a + 1 of `ones` and bit a of m are the same, and 2 if they
-// differ.
+// Bit a of `ones` is 1 where the remainder in column a is 1, bit a of `zeros` where it is 0.
 fn fill_live(part: &mut [u64], m: u64, q: u64, top: usize)
     requires { ⌜ LiveAsked m q top (now part) ⌝ }
     ensures { λ _. ⌜ RowFilled countCell 0 m 0 (now (part .entry)) (now (part .exit)) ⌝ }
+    ensures { λ _. ⌜ RowKept m (now (part .entry)) (now (part .exit)) ⌝ }
 {
-    let ones = m ^ q;
-    let zeros = !(ones | ((ones >> 1) ^ m));
+    let ones = grid::ones(m, q);
+    let zeros = grid::zeros(m, q);
     let mut right = 1;
     let mut a = top;
     while 0 < a {
@@ -45,6 +43,7 @@ fn fill_live(part: &mut [u64], m: u64, q: u64, top: usize)
 fn fill_row(part: &mut [u64], m: u64, q: u64)
     requires { ⌜ RowAsked countCell 0 m q (now part) ⌝ }
     ensures { λ _. ⌜ RowFilled countCell 0 m 0 (now (part .entry)) (now (part .exit)) ⌝ }
+    ensures { λ _. ⌜ RowKept m (now (part .entry)) (now (part .exit)) ⌝ }
 {
     let live = live_columns(m);
     if live == 0 {
@@ -60,6 +59,7 @@ fn fill_row(part: &mut [u64], m: u64, q: u64)
 pub fn fill_rows(scratch: &mut [u64], b: usize, m: u64)
     requires { ⌜ RowsAsked b m (now scratch) ⌝ }
     ensures { λ _. ⌜ RowsFilled countCell b m (now (scratch .entry)) (now (scratch .exit)) ⌝ }
+    ensures { λ _. ⌜ RowsKept b m (now (scratch .entry)) (now (scratch .exit)) ⌝ }
 {
     let rests = grid::row_rests(m);
     let mut i = 41;

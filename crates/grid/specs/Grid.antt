@@ -8,7 +8,7 @@
 use mathlib.Core.Path.{_≡_}
 use mathlib.Core.Bool.{Bool, true, false}
 use mathlib.Core.List.{List}
-use Prim.Native.Nat.{ℕ, suc, _+_, _-_, _*_, _^_, _/_, _≤_, _<_}
+use Prim.Native.Nat.{ℕ, suc, _+_, _-_, _*_, _^_, _/_, _%_, _≤_, _<_}
 use lib.ListN.{length, getD, drop}
 use Rattle.lent.specs.Lent.{scratchSize}
 
@@ -51,6 +51,10 @@ pub record RowFilled (G : Meaning) (b m j : ℕ) (entry part : List ℕ) : Type 
   pub same : length part ≡ length entry
   pub later : drop 128 part ≡ drop 128 entry
 
+-- What stands in the columns where nothing is left, m being the rest of the row's first column, is as it was at entry.
+pub record RowKept (m : ℕ) (entry part : List ℕ) : Type 0 where
+  pub dead : (i : ℕ) → i < 128 → m / 2 ^ (i / 2) ≡ 0 → getD part i 0 ≡ getD entry i 0
+
 -- What filling the rows from b on is lent: a scratch. m is the rest of row b's first column, so that m × 3^b is at most n.
 pub record RowsAsked (b m : ℕ) (l : List ℕ) : Type 0 where
   pub last : b ≤ 41
@@ -62,3 +66,8 @@ pub record RowsFilled (G : Meaning) (b m : ℕ) (entry l : List ℕ) : Type 0 wh
   pub rows : RowsFrom G b m l
   pub same : length l ≡ length entry
   pub later : drop scratchSize l ≡ drop scratchSize entry
+
+-- The same of the rows from b on: where nothing is left, every number is as it was at entry. The number i stands in row i / 128 and
+-- in column i % 128 / 2.
+pub record RowsKept (b m : ℕ) (entry l : List ℕ) : Type 0 where
+  pub dead : (i : ℕ) → b ≤ i / 128 → m / 3 ^ (i / 128 - b) / 2 ^ (i % 128 / 2) ≡ 0 → getD l i 0 ≡ getD entry i 0

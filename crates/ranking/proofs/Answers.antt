@@ -10,7 +10,7 @@ use native.Mathlib.Omega.{arith}
 use lib.Dec.{T, ltb}
 use lib.ListN.{length, take}
 use borrow.Author.Tests.{lt-ltb, le-ltb}
-use Rattle.counting.specs.TableLaws.{asked-still-room}
+use Rattle.counting.specs.TableLaws.{TableAsked, asked-still-room}
 use Rattle.lent.specs.LentLaws.{filled-first, scratch-little, scratch-enough, enough}
 use Rattle.chains.specs.Words.{Word, wordOf, reads}
 use Rattle.chains.specs.Listing.{listOf, count, countBefore, position, chainAt}
@@ -31,7 +31,6 @@ use Rattle.words.specs.declared.Judged.the-variants as judged
 use Rattle.words.specs.declared.Written.the-variants as written
 use Rattle.words.specs.declared.Parted.{Parted}
 use Rattle.words.specs.declared.Parted.the-variants as parted
-use Rattle.counting.specs.TableCount.{TableAsked}
 use Rattle.ranking.specs.Services.{Outcome, refused, gives, lentScratch, lent}
 use Rattle.ranking.specs.Services.{placedOf, answerOf, placesLeft, judgedAs, ofRecord, ofWord, standing, after, nextOf}
 use Rattle.ranking.specs.Outcomes.{standing-below, of-chain, of-gives, of-weighed, of-over, position-word}

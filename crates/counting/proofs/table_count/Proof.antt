@@ -2,7 +2,7 @@
 use mathlib.Core.Path.{sym, ap, _∙_}
 use borrow.Author.Needs.{needs}
 use Rattle.lent.specs.LentLaws.{refused-untouched}
-use Rattle.counting.specs.TableLaws.{counted-served, counted-refused, told-count, told-refused, asked-still-room, asked-cleared}
+use Rattle.counting.specs.TableLaws.{counted-served, counted-refused, told-count, told-refused, table-refused, table-room, table-cleared}
 use Rattle.counting.specs.declared.Counted.the-variants.{Count}
 use Rattle.counting.proofs.table_count.Statement.{statement}
 use Rattle.counting.proofs.table_count.Tie as tie
@@ -11,12 +11,12 @@ returns : tie.Need-returns
 returns c =
     let f = c .before .before .before .before in
     let small = told-refused _ _ (f .fill-counts .ensures .0) (c .enum-told .given .1) in
-    (sym (counted-refused _ _ small), f .fill-counts .ensures .1 .untouched small ∙ sym (refused-untouched _ small))
+    (sym (counted-refused _ _ small), f .fill-counts .ensures .1 ∙ table-refused _ _ small ∙ sym (refused-untouched _ small))
 
 part-clear-u64-end : tie.Need-part-clear-u64-end
 part-clear-u64-end c =
     let (answer, asked) = c .before .before .before .before .before .fill-counts .ensures in
-    asked-still-room asked (told-count _ _ answer (c .before .count .given .1) .0)
+    table-room _ _ _ asked (told-count _ _ answer (c .before .count .given .1) .0)
 
 returns-2 : tie.Need-returns-2
 returns-2 c =
@@ -25,7 +25,7 @@ returns-2 c =
     let (answer, asked) = told .before .before .before .before .fill-counts .ensures in
     let (room, counted) = told-count _ _ answer (told .count .given .1) in (
       ap Count counted ∙ sym (counted-served _ _ room),
-      asked-cleared asked room (zeroed .clear-u64 .last .0) (zeroed .clear-u64 .ensures),
+      table-cleared _ _ _ asked room (zeroed .clear-u64 .last .0) (zeroed .clear-u64 .ensures),
     )
 
 pub table-count-spec : {M : Type 1} → statement M

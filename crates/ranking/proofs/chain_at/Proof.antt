@@ -2,7 +2,7 @@
 use mathlib.Core.Path.{_∙_}
 use borrow.Author.Needs.{needs}
 use Rattle.lent.specs.LentLaws.{little-scratch, little-places}
-use Rattle.counting.specs.TableLaws.{told-count, told-refused}
+use Rattle.counting.specs.TableLaws.{told-count, told-refused, table-asked}
 use Rattle.ranking.specs.Services.{atPosition}
 use Rattle.ranking.proofs.Answers.{filled-table, filled-again, little, served}
 use Rattle.ranking.proofs.chain_at.Statement.{statement}
@@ -13,7 +13,8 @@ returns c = little _ _ _ (little-places 64 _ _ (c .if1 .taken))
 
 returns-2 : tie.Need-returns-2
 returns-2 c =
-    let (answer, asked) = c .before .before .before .before .fill-counts .ensures in
+    let answer = c .before .before .before .before .fill-counts .ensures .0 in
+    let asked = table-asked _ _ _ (c .before .before .before .before .fill-counts .ensures .1) in
     let small = told-refused _ _ answer (c .enum-told .given .1) in
     let (refused, (places, scratch)) = little _ _ _ (little-scratch 64 _ _ small) in
     (refused, (places, asked .untouched small ∙ scratch))
@@ -22,7 +23,8 @@ give-at-requires : tie.Need-give-at-requires
 give-at-requires c κs =
     let told = c .before .before .before in
     let f = told .before .before .before .before in
-    let (answer, asked) = f .fill-counts .ensures in
+    let answer = f .fill-counts .ensures .0 in
+    let asked = table-asked _ _ _ (f .fill-counts .ensures .1) in
     let (room, number) = told-count _ _ answer (told .count .given .1) in
     record { counts = filled-table asked room; number = number; room = f .before .before .if1 .left }
 
@@ -32,7 +34,8 @@ returns-3 c =
     let g = c .before .before .before .before in
     let told = g .before .before .before .before in
     let f = told .before .before .before .before in
-    let (answer, asked) = f .fill-counts .ensures in
+    let answer = f .fill-counts .ensures .0 in
+    let asked = table-asked _ _ _ (f .fill-counts .ensures .1) in
     let (room, number) = told-count _ _ answer (told .count .given .1) in
     let (given, (places, scratch)) = g .give-at .ensures in
     served _ _ _ _ _ _ room (f .before .before .if1 .left) given places (scratch ∙ filled-again asked room)

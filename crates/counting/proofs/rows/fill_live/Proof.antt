@@ -9,20 +9,25 @@ use native.Mathlib.Omega.{arith}
 use borrow.Author.Needs.{needs}
 use lib.ListN.{length, getD, set, length-set}
 use lib.Pow.{shr-le}
-use Rattle.grid.specs.Grid.{RowAsked, RowFilled}
+use Rattle.grid.specs.Grid.{RowAsked, RowFilled, RowKept}
 use Rattle.grid.specs.Rests.{half-of-rest, third-of-rest}
-use Rattle.grid.specs.Masks.{onesOf, zerosOf, ones-bit, zeros-bit}
+use Rattle.grid.specs.Masks.{onesOf, zerosOf}
+use Rattle.grid.specs.MaskLaws.{ones-bit, zeros-bit}
 use Rattle.grid.specs.Fill.{column, asked-still, read-above}
+use Rattle.grid.specs.Kept.{kept-none, kept-column}
 use Rattle.chains.specs.Counts.{ways, ways-at-most}
 use Rattle.counting.specs.Table.{countCell, LiveAsked, cell-at-1, cell-after-a, cell-free}
 use Rattle.counting.proofs.rows.fill_live.Statement.{statement}
 use Rattle.counting.proofs.rows.fill_live.Tie as tie
 use Rattle.counting.proofs.rows.fill_live.Reads as reads
 use Rattle.counting.proofs.rows.fill_live.Lts as lts
+use Rattle.grid.proofs.ones.Reads as ones
+use Rattle.grid.proofs.zeros.Reads as zeros
 
 -- The columns from a on are filled, and `right` is column a's number for the reader after a has risen.
 pub record Filling (m top : ℕ) (entry part : List ℕ) (right a : ℕ) : Type 0 where
   pub filled : RowFilled countCell 0 m a entry part
+  pub kept : RowKept m entry part
   pub last : a ≤ top
   pub live : 1 ≤ m / 2 ^ a
   pub carried : right ≡ ways false (m / 2 ^ a)
@@ -31,22 +36,22 @@ begin : {m q top : ℕ} {entry : List ℕ} → LiveAsked m q top entry → Filli
 begin p =
     record {
       filled = record { row = p .filled; same = refl; later = refl };
+      kept = kept-none _ _;
       last = omega arith;
       live = omega (arith, p .at-top);
       carried = rw (p .at-top) (sym (cell-at-1 false));
     }
 
--- The two numbers that a turn makes for column a.
-abbrev risenAt : ℕ → ℕ → List ℕ → ℕ → ℕ → ℕ
-risenAt m q part right a = right + getD part (128 + 2 * a) 0 * (onesOf m q / 2 ^ a % 2)
+-- The two numbers that a turn makes for column a, by the masks.
+abbrev risenAt : ℕ → List ℕ → ℕ → ℕ → ℕ
+risenAt ones part right a = right + getD part (128 + 2 * a) 0 * (ones / 2 ^ a % 2)
 
 abbrev freeAt : ℕ → ℕ → List ℕ → ℕ → ℕ → ℕ
-freeAt m q part right a =
-    risenAt m q part right a + getD part (128 + 2 * a) 0 * (zerosOf m q / 2 ^ a % 2)
+freeAt ones zeros part right a = risenAt ones part right a + getD part (128 + 2 * a) 0 * (zeros / 2 ^ a % 2)
 
 -- A turn, at the column left of a.
-module _ {m q top : ℕ} {entry part : List ℕ} {right a : ℕ} (p : LiveAsked m q top entry)
-    (f : Filling m top entry part right a) (h : 0 < a) (fits : m < 2 ^ 64) where
+module _ {m q top ones zeros : ℕ} {entry part : List ℕ} {right a : ℕ} (p : LiveAsked m q top entry)
+    (f : Filling m top entry part right a) (h : 0 < a) (fits : m < 2 ^ 64) (o : ones ≡ onesOf m q) (z : zeros ≡ zerosOf m q) where
   half : m / 2 ^ (a - 1) / 2 ≡ m / 2 ^ a
   half =
       let e : suc (a - 1) ≡ a = omega arith in
@@ -70,37 +75,38 @@ module _ {m q top : ℕ} {entry part : List ℕ} {right a : ℕ} (p : LiveAsked 
       (rw (p .asked .third, third-of-rest m (a - 1)) left)
       ∙ rw (p .asked .third, third-of-rest m (a - 1))
 
-  risen : risenAt m q part right (a - 1) ≡ ways false (m / 2 ^ (a - 1))
+  risen : risenAt ones part right (a - 1) ≡ ways false (m / 2 ^ (a - 1))
   risen =
-      rw (f .carried, p .asked .third, ones-bit m (a - 1), ← half)
+      rw (o, f .carried, p .asked .third, ones-bit m (a - 1), ← half)
       (cell-after-a (m / 2 ^ (a - 1)) (getD part (128 + 2 * (a - 1)) 0) two above)
 
-  free : freeAt m q part right (a - 1) ≡ ways true (m / 2 ^ (a - 1))
+  free : freeAt ones zeros part right (a - 1) ≡ ways true (m / 2 ^ (a - 1))
   free =
-      rw (risen, p .asked .third, zeros-bit m (a - 1) fits (omega (arith, p .last, f .last)))
+      rw (risen, z, p .asked .third, zeros-bit m (a - 1) fits (omega (arith, p .last, f .last)))
       (cell-free (m / 2 ^ (a - 1)) (getD part (128 + 2 * (a - 1)) 0) two above)
 
-  below : freeAt m q part right (a - 1) < 2 ^ 64
+  below : freeAt ones zeros part right (a - 1) < 2 ^ 64
   below = omega (arith, free, ways-at-most true (m / 2 ^ (a - 1)) (omega (arith, two)), shr-le m (a - 1))
 
   next : Filling m top entry
-      (set (set part (2 * (a - 1) + 1) (risenAt m q part right (a - 1))) (2 * (a - 1)) (freeAt m q part right (a - 1)))
-      (risenAt m q part right (a - 1)) (a - 1)
+      (set (set part (2 * (a - 1) + 1) (risenAt ones part right (a - 1))) (2 * (a - 1)) (freeAt ones zeros part right (a - 1)))
+      (risenAt ones part right (a - 1)) (a - 1)
   next =
       record {
         filled =
-            column countCell 0 m (a - 1) a entry part (freeAt m q part right (a - 1)) (risenAt m q part right (a - 1)) (omega arith)
+            column countCell 0 m (a - 1) a entry part (freeAt ones zeros part right (a - 1)) (risenAt ones part right (a - 1)) (omega arith)
             (omega (arith, p .last, f .last)) (p .asked .room) free risen (f .filled);
+        kept = kept-column (a - 1) (freeAt ones zeros part right (a - 1)) (risenAt ones part right (a - 1)) (omega (arith, two)) (f .kept);
         last = omega (arith, f .last);
         live = omega (arith, two);
         carried = risen;
       }
 
 end : {m top : ℕ} {entry part : List ℕ} {right a : ℕ} → Filling m top entry part right a → a ≤ 0
-    → RowFilled countCell 0 m 0 entry part
+    → RowFilled countCell 0 m 0 entry part × RowKept m entry part
 end {a = a} f h =
     let e : a ≡ 0 = omega arith in
-    rw e at (f .filled)
+    (rw e at (f .filled), f .kept)
 
 abbrev Inv-loop : tie.InvT-loop
 Inv-loop part₀ m q top ones zeros right₀ a₀ part right a = Filling m top part₀ part right a
@@ -109,22 +115,28 @@ abbrev μ-loop : tie.MeasureT-loop
 μ-loop part₀ m q top ones zeros right₀ a₀ part right a = a
 
 -- The larger of a turn's two sums.
-no-wrap : (c : lts.After-slice-known reads.Pre reads.Post Inv-loop μ-loop)
-    → freeAt (c .before .before .before .args .m) (c .before .before .before .args .q) (c .before .before .loop .part)
-    (c .before .before .loop .right) (c .before .before .loop .a - 1) < 2 ^ 64
+no-wrap : (c : lts.After-slice-known2 (ones.Asked, ones.Learnt, zeros.Asked, zeros.Learnt) reads.Pre reads.Post Inv-loop μ-loop)
+    → freeAt (c .before .before .before .before .ones .result) (c .before .before .before .zeros .result)
+    (c .before .before .loop .part) (c .before .before .loop .right) (c .before .before .loop .a - 1) < 2 ^ 64
 no-wrap c =
-    let at-loop = c .before .before in
-    below (at-loop .before .pre) (at-loop .loop .inv) (c .before .loop-test .taken) (search needs)
+    let l = c .before .before in
+    let z = l .before in
+    below (z .before .before .before .pre) (l .loop .inv) (c .before .loop-test .taken) (search needs) (z .before .ones .ensures)
+    (z .zeros .ensures)
 
 loop-again : tie.Need-loop-again Inv-loop μ-loop
 loop-again c =
-    let at-loop = c .before .before in
-    next (at-loop .before .pre) (at-loop .loop .inv) (c .before .loop-test .taken) (search needs)
+    let l = c .before .before in
+    let z = l .before in
+    next (z .before .before .before .pre) (l .loop .inv) (c .before .loop-test .taken) (search needs) (z .before .ones .ensures)
+    (z .zeros .ensures)
 
 slice-read-above : tie.Need-slice-read-above Inv-loop μ-loop
 slice-read-above c =
-    let at-loop = c .before .before in
-    within (at-loop .before .pre) (at-loop .loop .inv) (c .before .loop-test .taken) (search needs)
+    let l = c .before .before in
+    let z = l .before in
+    within (z .before .before .before .pre) (l .loop .inv) (c .before .loop-test .taken) (search needs) (z .before .ones .ensures)
+    (z .zeros .ensures)
 
 pub fill-live-spec : {M : Type 1} → statement M
 fill-live-spec =
@@ -132,7 +144,9 @@ fill-live-spec =
     (tie.spec
     Inv-loop
     μ-loop
-    (λ c. begin (c .pre))
+    (λ c κs. search needs)
+    (λ c κs. search needs)
+    (λ c. begin (c .before .before .before .pre))
     (λ c. search needs)
     (λ c. search needs)
     (λ c. search needs)

@@ -7,9 +7,10 @@ use Prim.Native.Nat.{ℕ, suc, _+_, _*_, _^_, _/_, _-_, _≤_, _<_}
 use native.Mathlib.Omega.{arith}
 use borrow.Author.Needs.{needs}
 use lib.ListN.{set, length-set}
-use Rattle.grid.specs.Grid.{RowAsked, RowFilled}
+use Rattle.grid.specs.Grid.{RowAsked, RowFilled, RowKept}
 use Rattle.grid.specs.Rests.{rest-at-top}
 use Rattle.grid.specs.Fill.{dead-columns, column, filled-on, asked-still}
+use Rattle.grid.specs.Kept.{kept-none, kept-column, kept-on}
 use Rattle.chains.specs.Counts.{ways}
 use Rattle.counting.specs.Table.{countCell, LiveAsked, cell-at-1}
 use Rattle.counting.proofs.rows.fill_row.Statement.{statement}
@@ -33,6 +34,9 @@ module _ {m q live : ℕ} {part : List ℕ} (r : RowAsked countCell 0 m q part)
       column countCell 0 m (live - 1) live part part 1 1 (omega arith) (l .0) (r .room) (one true) (one false)
       (dead-columns countCell 0 m live part (l .1))
 
+  top-kept : RowKept m part (set (set part (2 * (live - 1) + 1) 1) (2 * (live - 1)) 1)
+  top-kept = kept-column (live - 1) 1 1 (omega (arith, at-top)) (kept-none m part)
+
   live-asked : LiveAsked m q (live - 1) (set (set part (2 * (live - 1) + 1) 1) (2 * (live - 1)) 1)
   live-asked =
       record { asked = asked-still countCell r top-filled; last = omega (arith, l .0); at-top = at-top; filled = top-filled .row }
@@ -41,8 +45,10 @@ returns : tie.Need-returns
 returns c =
     let l = c .before in
     let args = l .before .before .args in
-    let e : l .live-columns .result ≡ 0 = omega arith in
-    rw e at (dead-columns countCell 0 (args .m) (l .live-columns .result) (args .part .now) (l .live-columns .ensures .1))
+    let e : l .live-columns .result ≡ 0 = omega arith in (
+      rw e at (dead-columns countCell 0 (args .m) (l .live-columns .result) (args .part .now) (l .live-columns .ensures .1)),
+      kept-none _ _,
+    )
 
 fill-live-requires : tie.Need-fill-live-requires
 fill-live-requires c κs =
@@ -51,9 +57,12 @@ fill-live-requires c κs =
 
 returns-2 : tie.Need-returns-2
 returns-2 c =
-    let l = c .before .before .before .before .before in
-    filled-on countCell (top-filled (l .before .before .pre) (l .live-columns .ensures) (omega arith))
-    (c .before .before .fill-live .ensures)
+    let f = c .before .before in
+    let l = f .before .before .before in
+    let live = l .live-columns .ensures in (
+      filled-on countCell (top-filled (l .before .before .pre) live (omega arith)) (f .fill-live .ensures .0),
+      kept-on (top-kept (l .before .before .pre) live (omega arith)) (f .fill-live .ensures .1),
+    )
 
 pub fill-row-spec : {M : Type 1} → statement M
 fill-row-spec =
@@ -70,5 +79,5 @@ fill-row-spec =
     (λ c. search needs)
     (λ c. simp length-set (omega arith))
     fill-live-requires
-    (λ c. returns-2 c .same)
+    (λ c. returns-2 c .0 .same)
     returns-2)
