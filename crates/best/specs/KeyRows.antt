@@ -16,7 +16,8 @@ use lib.Pow.{pow-mono, pow-pos, shr-le}
 use lib.Seq.{getD-set-same, getD-set-other, drop-set-lt}
 use Rattle.grid.specs.Grid.{Meaning, RowFrom, RowAsked, RowFilled, RowsAsked}
 use Rattle.grid.specs.Rests.{half-of-rest, third-of-rest, rest-dead, rest-at-top}
-use Rattle.grid.specs.Masks.{onesOf, zerosOf, ones-bit, zeros-bit}
+use Rattle.grid.specs.Masks.{onesOf, zerosOf}
+use Rattle.grid.specs.MaskLaws.{ones-bit, zeros-bit}
 use Rattle.grid.specs.Fill.{dead-columns, column, asked-still, read-above}
 use Rattle.best.specs.KeyTable.{
   noKey,

@@ -21,7 +21,7 @@ use Rattle.chains.specs.Members.{rises}
 use Rattle.chains.specs.Keys.{inside, bestAt}
 use Rattle.chains.specs.Bests.{lead, keyA, keyB, best-one, least-step, take-a, take-b, least-told}
 use Rattle.grid.specs.Grid.{Table}
-use Rattle.grid.specs.Rests.{below-last-row, restAt, rest-origin, rest-right, rest-up, point-low}
+use Rattle.grid.specs.Rests.{below-last-row, restAt, rest-origin, rest-right, rest-up, point-bounds}
 use Rattle.grid.specs.Fill.{read-free, read-after-a}
 use Rattle.ranking.specs.Points.{drop-more, take-more, take-stored}
 use Rattle.best.specs.KeyTable.{
@@ -170,7 +170,7 @@ pub step-asked : {costs : List ℕ} {A B n a b : ℕ} {free : Bool} {rest : ℕ}
 step-asked {n = n} {a = a} {b = b} k w more fits =
     let two : 2 ≤ restAt n a b = rw (w .here) at more in
     let right-left : 1 ≤ restAt n (a + 1) b = rw rest-right (omega arith) in
-    let l = point-low n (a + 1) b fits right-left in
+    let l = point-bounds n (a + 1) b fits right-left in
     let row = below-last-row (n / 3 ^ b) b (omega (arith, fits, div-mul-le-self n (3 ^ b))) (omega (arith, shr-le (n / 3 ^ b) a)) in
     record { keys = k; walked = w; more = more; low-a = omega arith; low-b = row }
 
@@ -318,7 +318,7 @@ module _
             (take-stored letters (a + b) l (omega (arith, w .low, w .room))
             ∙ ap (λ (v : Word). v ++ (l ∷ [])) (w .written)
             ∙ sym (r .spelled));
-        low = point-low n a′ b′ fits (rw (r .walked .here) at (r .walked .some-left)) .0;
+        low = point-bounds n a′ b′ fits (rw (r .walked .here) at (r .walked .some-left)) .0;
         room = rw length-set (w .room);
         same = length-set letters (a + b) l ∙ w .same;
       }

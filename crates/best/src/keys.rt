@@ -81,8 +81,8 @@ fn fill_below(
     requires { ⌜ BelowAsked (now costs) doublings triplings b m q start right (now part) ⌝ }
     ensures { λ _. ⌜ RowFilled (keyCell (now (costs .entry)) doublings triplings) b m 0 (now (part .entry)) (now (part .exit)) ⌝ }
 {
-    let ones = m ^ q;
-    let zeros = !(ones | ((ones >> 1) ^ m));
+    let ones = grid::ones(m, q);
+    let zeros = grid::zeros(m, q);
     let a_rises = costs[0];
     let part_a_rises = costs[1];
     let b_rises = costs[2];

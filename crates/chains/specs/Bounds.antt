@@ -1,17 +1,25 @@
 -- How large a chain, its word and the points of its walk can be: document 01, 'Parts and chains'. In order: the letters of a word
--- that a reader takes; the parts of a word and of a chain; the letters of a chain's word; the points of the walk. A bound on
+-- that a reader takes; the parts of a word and of a chain; the exponents of a part; the letters of a chain's word; the points of the walk. A bound on
 -- letters or parts takes any power of two: with 2^64 a chain has at most 64 parts, and its word 64 letters.
 use mathlib.Core.Path.{_≡_, refl, sym, ap, _∙_}
 use mathlib.Core.Logic.{⊎-elim}
 use mathlib.Core.Bool.{Bool, true, false, _&&_}
-use mathlib.Core.List.{List, [], _∷_, _++_, List·Memᴰ, List·Memᴰ·not-nil, List·Memᴰ·cases-cons}
+use mathlib.Core.List.{List, [], _∷_, _++_, List·Memᴰ, List·Memᴰ·head, List·Memᴰ·not-nil, List·Memᴰ·cases-cons}
 use Prim.Native.Nat.{ℕ, zero, suc, _+_, _-_, _*_, _^_, _≤_, _<_}
-use native.Mathlib.Nat.{le-mul-of-pos-right, pow-suc}
+use native.Mathlib.Nat.{
+  le-mul-of-pos-right,
+  le-trans,
+  lt-of-not-le,
+  mul-le-mul-left,
+  pow-le-pow-left,
+  pow-le-pow-right,
+  pow-suc,
+}
 use native.Mathlib.Omega.{arith}
 use lib.Dec.{T}
 use lib.Ieee.Fits.{and-l, and-r}
 use lib.ListN.{length, length-append, length-replicate}
-use lib.Pow.{pow-mono, pow-pos}
+use lib.Pow.{pow-add, pow-mono, pow-pos}
 use Rattle.chains.specs.Chains.{Part, value, Chained, total, ChainOf}
 use Rattle.chains.specs.Words.{Word, origin, path, marked, walk, wordOf, right, up, chainFrom, chainOf, someLeft, reads}
 use Rattle.chains.specs.Listing.{one-if}
@@ -82,6 +90,16 @@ part-total (q ∷ c) p m =
 pub part-at-most : (n : ℕ) (c : List Part) (p : Part) → ChainOf n c → List·Memᴰ p c → value p ≤ n
 part-at-most n c p h m = omega (arith, part-total c p m)
 
+-- ---- exponents
+
+-- The exponents of a part below 2^64.
+pub part-bounds : (p : Part) → value p < 2 ^ 64 → (p .a + p .b < 64) × (p .b < 41)
+unfolding value
+part-bounds p h =
+    let two : 2 ^ (p .a + p .b) ≤ value p = rw pow-add (mul-le-mul-left (2 ^ p .a) (pow-le-pow-left (omega arith) (p .b))) in
+    let three : 3 ^ p .b ≤ value p = le-trans (le-mul-of-pos-right (3 ^ p .b) (pow-pos (p .a))) (omega arith) in
+    (lt-of-not-le (λ g. omega (arith, pow-mono g)), lt-of-not-le (λ g. omega (arith, pow-le-pow-right {n = 3} (omega arith) g)))
+
 -- ---- the letters of a chain's word
 
 -- A chain's word stands for the chain's sum.
@@ -95,6 +113,13 @@ word-bound n k c h l = letters-bound k (wordOf c) (word-reads c) (omega (arith, 
 pub parts-bound : (n k : ℕ) (c : List Part) → ChainOf n c → n < 2 ^ k → length c ≤ k
 parts-bound n k c h l =
     omega (arith, parts-letters (wordOf c), ap length (chain-word-chain c (h .chained)), word-bound n k c h l)
+
+-- A chain of a number below 2^64: how many parts it has, and the exponents of its largest part.
+pub chain-bounds : (n : ℕ) (p : Part) (c : List Part) → n < 2 ^ 64 → ChainOf n (p ∷ c)
+    → (length (p ∷ c) ≤ 64) × (p .a ≤ 63) × (p .b ≤ 40)
+chain-bounds n p c f h =
+    let low = part-bounds p (omega (arith, part-at-most n (p ∷ c) p h (List·Memᴰ·head refl))) in
+    (parts-bound n 64 (p ∷ c) h f, omega arith, omega arith)
 
 -- The letters of a path, and of the walk through the parts c to p.
 length-marked : (u : Word) → length (marked u) ≡ length u

@@ -170,10 +170,12 @@ module _ (n : ℕ) (entry l : List ℕ) (e : l ≡ tableLeft n entry) (h : scrat
   pub table-rows : CountsIn n entry l
   table-rows =
       record {
-        rows = record { row = λ b p hb. record {
-          free = λ a p′ ha left. rw add-zero at (cell b a 0 hb ha (omega arith) left);
-          after-a = λ a p′ ha left. cell b a 1 hb ha (omega arith) left;
-        } };
+        rows = record {
+          row = λ b p hb. record {
+            free = λ a p′ ha left. rw add-zero at (cell b a 0 hb ha (omega arith) left);
+            after-a = λ a p′ ha left. cell b a 1 hb ha (omega arith) left;
+          };
+        };
         same = rw (whole, length-append) (omega (arith, made, length-drop scratchSize entry));
         later = rw whole (drop-at (numbersFrom n 0 (take scratchSize entry)) (drop scratchSize entry) scratchSize made);
       }

@@ -26,7 +26,9 @@ use native.Mathlib.Nat.{
 }
 use native.Mathlib.Omega.{arith}
 use native.Mathlib.Numerals.{add-one}
-use lib.Pow.{shr-shr, pow-add, pow-mono, pow-pos}
+use lib.Pow.{shr-shr, pow-mono, pow-pos}
+use Rattle.chains.specs.Chains.{Part, value}
+use Rattle.chains.specs.Bounds.{part-bounds}
 
 pub half-of-rest : (m a : ℕ) → m / 2 ^ a / 2 ≡ m / 2 ^ suc a
 half-of-rest m a = shr-shr m a 1 ∙ rw add-one
@@ -74,9 +76,6 @@ point-value n a b h =
     le-div-iff-mul-le (one-le-pow b 3 (omega arith)) .0 (omega arith)
 
 -- So it is one of the table's.
-pub point-low : (n a b : ℕ) → n < 2 ^ 64 → 1 ≤ restAt n a b → (a + b < 64) × (b < 41)
-point-low n a b f h =
-    let v : 2 ^ a * 3 ^ b ≤ n = point-value n a b h in
-    let two : 2 ^ (a + b) ≤ n = rw pow-add (le-trans (mul-le-mul-left (2 ^ a) (pow-le-pow-left (omega arith) b)) v) in
-    let three : 3 ^ b ≤ n = le-trans (le-mul-of-pos-right (3 ^ b) (pow-pos a)) (omega arith) in
-    (lt-of-not-le (λ g. omega (arith, pow-mono g)), lt-of-not-le (λ g. omega (arith, pow-le-pow-right {n = 3} (omega arith) g)))
+pub point-bounds : (n a b : ℕ) → n < 2 ^ 64 → 1 ≤ restAt n a b → (a + b < 64) × (b < 41)
+unfolding value
+point-bounds n a b f h = part-bounds (record { a = a; b = b }) (omega (arith, point-value n a b h))

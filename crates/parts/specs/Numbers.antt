@@ -4,7 +4,7 @@
 use mathlib.Core.Path.{_≡_, refl, sym, _∙_}
 use mathlib.Core.Bool.{Bool, true, false, _&&_}
 use Prim.Native.Nat.{ℕ, _+_, _*_, _^_, _/_, _≤_, _<_}
-use native.Mathlib.Nat.{one-le-pow, le-of-suc-le-suc, lt-of-not-le, pow-le-pow-right, le-mul-of-pos-right}
+use native.Mathlib.Nat.{le-of-suc-le-suc, lt-of-not-le}
 use native.Mathlib.Omega.{arith}
 use lib.Dec.{T, ltb, leb, eqb, ltb→lt, leb→le, eqb→eq}
 use lib.Ieee.Fits.{and-l, and-r}
@@ -12,6 +12,7 @@ use lib.ListN.{length, getD, List·getD-eq-default}
 use borrow.Author.Tests.{lt-ltb, le-ltb}
 use Rattle.chains.specs.Chains.{Part, value}
 use Rattle.chains.specs.Divides.{value-pos, value-unique}
+use Rattle.chains.specs.Bounds.{part-bounds}
 use Rattle.parts.specs.Table.{rows, joined, parts}
 use Rattle.parts.specs.Parts.{limit, times, partAt, partNumber, numberOf}
 use Rattle.parts.specs.declared.Number.the-variants.{At, None}
@@ -87,18 +88,6 @@ part-below i h = product-at i h .1
 
 -- ---- each point
 
--- The exponents of a part below 2^64.
-pub part-bounds : (p : Part) → value p < limit → (p .a < 64) × (p .b < 41)
-unfolding value
-part-bounds p h =
-    let twos = one-le-pow (p .a) 2 (omega arith) in
-    let threes = one-le-pow (p .b) 3 (omega arith) in (
-      lt-of-not-le
-          (λ (l : 64 ≤ p .a). omega (arith, pow-le-pow-right {n = 2} (omega arith) l, le-mul-of-pos-right (2 ^ p .a) threes)),
-      lt-of-not-le
-          (λ (l : 41 ≤ p .b). omega (arith, pow-le-pow-right {n = 3} (omega arith) l, le-mul-of-pos-right (3 ^ p .b) twos)),
-    )
-
 -- What the test of a point says, outside and inside.
 module _ (p : Part) (across : p .a < 64) (upward : p .b < 41) where
   tested : T (rightly (inside (p .a) (p .b)) (value p) (getD parts (rank (p .a) (p .b)) 0))
@@ -121,7 +110,7 @@ module _ (p : Part) (across : p .a < 64) (upward : p .b < 41) where
 
 -- ---- from a part to its number
 
--- The place of an entry's part.
+-- The number of an entry's part.
 number-of-entry : (i : ℕ) → i < 1344 → (p : Part) → getD parts i 0 ≡ value p → partNumber p ≡ i
 unfolding partNumber
 number-of-entry i h p e = rw (← e) (smaller-at 0 parts parts-ascending i (omega (arith, parts-count)))
@@ -133,19 +122,22 @@ at-rank p h = go (inside (p .a) (p .b)) refl
     at : ℕ
     at = rank (p .a) (p .b)
 
+    bounds : (p .a + p .b < 64) × (p .b < 41)
+    bounds = part-bounds p h
+
     go : (f : Bool) → inside (p .a) (p .b) ≡ f → (at < 1344) × (getD parts at 0 ≡ value p)
     go true e =
-        let there = inside-found p (part-bounds p h .0) (part-bounds p h .1) e .1 in
+        let there = inside-found p (omega (arith, bounds)) (bounds .1) e .1 in
         let past : 1344 ≤ at → getD parts at 0 ≡ 0 = λ l. List·getD-eq-default parts 0 (omega (arith, parts-count)) in (
           lt-of-not-le (λ (l : 1344 ≤ at). omega (arith, there, value-pos p, past l)),
           there,
         )
-    go false e = absurd (omega (arith, outside-over p (part-bounds p h .0) (part-bounds p h .1) e))
+    go false e = absurd (omega (arith, outside-over p (omega (arith, bounds)) (bounds .1) e))
 
 pub number-rank : (p : Part) → value p < limit → partNumber p ≡ rank (p .a) (p .b)
 number-rank p h = number-of-entry (rank (p .a) (p .b)) (at-rank p h .0) p (at-rank p h .1)
 
--- Every part below 2^64 is in the table, at its place.
+-- Every part below 2^64 is in the table, at its number.
 pub parts-complete : (p : Part) → value p < limit → (partNumber p < 1344) × (getD parts (partNumber p) 0 ≡ value p)
 parts-complete p h = rw (number-rank p h) (at-rank p h)
 

@@ -17,7 +17,7 @@ use Rattle.chains.specs.Weight.{weight}
 use Rattle.chains.specs.Counts.{ways, count-ways, ways-at-0-free, ways-at-0-after-a, ways-at-most, ways-rem-2, count-fits}
 use Rattle.chains.specs.Members.{member-words}
 use Rattle.chains.specs.Positions.{words-at-position, word-at-position, position-rise-a, position-rise-b, word-rise-a, word-rise-b}
-use Rattle.grid.specs.Rests.{restAt, rest-origin, rest-right, rest-up, point-low}
+use Rattle.grid.specs.Rests.{restAt, rest-origin, rest-right, rest-up, point-bounds}
 use Rattle.grid.specs.Fill.{read-after-a}
 use Rattle.counting.specs.Table.{countCell}
 use Rattle.ranking.specs.Walks.{Tabled, RankWalked, wordAt, WordWalked, WordRisen, WordFound}
@@ -148,7 +148,7 @@ word-start n i h l =
 module _ (n i a b rest left : ℕ) (w : WordWalked n i a b rest left) where
   -- The points of a walk below 2^64 are as many as the places for its letters.
   pub word-low : n < 2 ^ 64 → a + b < 64
-  word-low f = point-low n a b f (omega arith) .0
+  word-low f = point-bounds n a b f (omega arith) .0
 
   -- Some letter after the next is left.
   module _ (h : 2 ≤ rest) where

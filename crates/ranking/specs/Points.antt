@@ -10,7 +10,7 @@ use native.Mathlib.Omega.{arith}
 use lib.ListN.{length, set, take, drop}
 use lib.Seq.{drop-drop, take-add, take-suc-set}
 use Rattle.chains.specs.Words.{Word}
-use Rattle.grid.specs.Rests.{restAt, rest-right, point-low}
+use Rattle.grid.specs.Rests.{restAt, rest-right, point-bounds}
 
 -- ---- a point with a letter after it
 
@@ -23,7 +23,7 @@ pub record Between (n a b : ℕ) : Type 0 where
 pub between : (n a b : ℕ) → n < 2 ^ 64 → 2 ≤ restAt n a b → Between n a b
 between n a b f h =
     let k : 1 ≤ restAt n (a + 1) b = rw rest-right (omega arith) in
-    let p = point-low n (a + 1) b f k in
+    let p = point-bounds n (a + 1) b f k in
     record { low-a = omega arith; low-b = omega arith; more = h }
 
 -- ---- letters

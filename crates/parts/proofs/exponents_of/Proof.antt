@@ -13,7 +13,7 @@ use Rattle.chains.specs.Chains.{Part, value}
 use Rattle.chains.specs.Divides.{value-pos}
 use Rattle.parts.specs.Parts.{limit}
 use Rattle.parts.specs.Tests.{below, at-below}
-use Rattle.parts.specs.Numbers.{part-bounds}
+use Rattle.chains.specs.Bounds.{part-bounds}
 use Rattle.parts.proofs.exponents_of.Statement.{statement}
 use Rattle.parts.proofs.exponents_of.Tie as tie
 
@@ -61,7 +61,7 @@ exponents : (p : Part) (v : ℕ) → v < limit → value p ≡ v
 unfolding value rightLength
 exponents p v h e =
     let bounds = part-bounds p (rw e h) in
-    let zeros : trailingZeros 64 v ≡ p .a = rw (← e) (trailing-part (p .a) 64 (3 ^ p .b) (bounds .0) (odd-power (p .b))) in
+    let zeros : trailingZeros 64 v ≡ p .a = rw (← e) (trailing-part (p .a) 64 (3 ^ p .b) (omega (arith, bounds)) (odd-power (p .b))) in
     let power : v / 2 ^ trailingZeros 64 v ≡ 3 ^ p .b = rw (zeros, ← e) (mul-div-right (3 ^ p .b) (pow-pos (p .a))) in
     let found = at-below 41 rightLength right-lengths (p .b) (bounds .1) in
     (zeros, rw power (eqb→eq ((64 - leadingZeros 64 (3 ^ p .b)) * 323 / 512) (p .b) found))

@@ -10,7 +10,8 @@ use borrow.Author.Tests.{le-leb, lt-leb}
 use Rattle.chains.specs.Chains.{Part, value}
 use Rattle.parts.specs.declared.Number.the-variants.{At, None}
 use Rattle.parts.specs.Parts.{limit, numberOf}
-use Rattle.parts.specs.Numbers.{inside, rank, part-bounds, outside-over, inside-found, number-rank, number-none, number-at}
+use Rattle.chains.specs.Bounds.{part-bounds}
+use Rattle.parts.specs.Numbers.{inside, rank, outside-over, inside-found, number-rank, number-none, number-at}
 use Rattle.parts.proofs.number_of.Statement.{statement}
 use Rattle.parts.proofs.number_of.Tie as tie
 use Rattle.parts.proofs.number_of.Lts as lts

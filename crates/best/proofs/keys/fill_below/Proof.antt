@@ -18,13 +18,13 @@ abbrev μ-loop : tie.MeasureT-loop
 slice-read-above : tie.Need-slice-read-above Inv-loop μ-loop
 slice-read-above c =
     let l = c .before .before in
-    let s = l .before .before .before .before .before .before in
+    let s = l .before .before .before .before .before .before .before .before in
     omega (arith, below-room (s .pre) (l .loop .inv) (l .loop .a - 1) (omega arith))
 
 add-least : tie.Need-add-least Inv-loop μ-loop
 add-least c =
     let l = c .before .before .before .before .before .before .before in
-    let s = l .before .before .before .before .before .before in
+    let s = l .before .before .before .before .before .before .before .before in
     let fits = after-fits (s .pre) (l .loop .inv) (l .loop .a - 1) (omega arith) (s .args .m / 2 ^ (l .loop .a - 1) % 2) in
     omega (arith, c .picked2 .ensures)
 
@@ -34,11 +34,12 @@ loop-again c =
     let p = y .before .before in
     let w = p .before .before in
     let l = w .before .before .before .before in
-    let s = l .before .before .before .before .before .before in
+    let z = l .before .before .before .before .before in
+    let s = l .before .before .before .before .before .before .before .before in
     below-more (s .pre) (l .loop .inv) (l .loop .a - 1) (omega arith) (s .fits .m .fits)
     (y .least2 .ensures
-    ∙ rw (y .before .picked2 .ensures, p .least .ensures, p .before .picked .ensures, w .before .wrapping-add-u64 .ensures))
-    (c .least3 .ensures ∙ rw (c .before .picked3 .ensures, w .wrapping-add-u642 .ensures))
+    ∙ rw (y .before .picked2 .ensures, p .least .ensures, p .before .picked .ensures, w .before .wrapping-add-u64 .ensures, z .before .ones .ensures))
+    (c .least3 .ensures ∙ rw (c .before .picked3 .ensures, w .wrapping-add-u642 .ensures, z .zeros .ensures))
 
 returns : tie.Need-returns Inv-loop μ-loop
 returns c =
@@ -52,11 +53,13 @@ fill-below-spec =
     (tie.spec
     Inv-loop
     μ-loop
+    (λ c κs. search needs)
+    (λ c κs. search needs)
     (λ c. search needs)
     (λ c. search needs)
     (λ c. search needs)
     (λ c. search needs)
-    (λ c. below-none (c .before .before .before .before .before .pre))
+    (λ c. below-none (c .before .before .before .before .before .before .before .pre))
     (λ c. search needs)
     (λ c. search needs)
     (λ c. search needs)

@@ -16,7 +16,7 @@ use Rattle.chains.specs.Chains.{Part, value, total}
 use Rattle.chains.specs.Words.{Word, chainFrom, chainOf, reads, someLeft}
 use Rattle.chains.specs.Weight.{weight, total-chainFrom, total-chainOf}
 use Rattle.parts.specs.Parts.{limit, partNumber}
-use Rattle.parts.specs.Numbers.{part-bounds}
+use Rattle.chains.specs.Bounds.{part-bounds}
 use Rattle.words.proofs.Marks.{taken, point, chain-step, marks, marks-chain, part-left}
 use Rattle.words.proofs.to_parts.store_numbers.Statement.{statement}
 use Rattle.words.proofs.to_parts.store_numbers.Tie as tie
