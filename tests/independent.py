@@ -223,9 +223,9 @@ def check_003():
     for n in BY_SEARCH:
         check_list(n, sorted((word_of(c), c) for c in chains_of(n)))
     chance = random.Random(3)
-    for _ in range(100):
-        check_relations(chance.randrange(1, (LIMIT - 6) // 6))
-        check_back(chance.getrandbits(64), chance)
+    for n in [*EDGES, *SPECIAL, *(chance.getrandbits(64) for _ in range(100))]:
+        check_relations(min(n, LIMIT - 6) // 6)
+        check_back(n, chance)
 
 
 def check_list(n, entries):
