@@ -1,16 +1,41 @@
 #!/usr/bin/env python3
-"""The independent program: chains by brute force from the definition, to hold the proved programs to.
+"""The independent program: what the proved programs must print and reply, made by other roads than theirs.
 
-It shares no code and no algorithm with the crates: chains are searched for from the largest part down, by divisibility of the
-values; a word is the walk itself, point by point; the dictionary order is that of text. No table, no recursion by remainders.
+    independent.py WHAT                     writes what the test program of that name must print (or, for WHAT-stdin, what it must be given)
+    independent.py --into FOLDER WHAT...    writes several such files, each under its name
+    independent.py                          lists the WHATs
 
-    independent.py WHAT        writes what the test program of that name must print (or, for WHAT-stdin, what it must be given)
-    independent.py             lists the WHATs
+Small numbers: all chains from the definition, by search over divisors from the largest part down (chains_up_to, chains_of); their words
+by walking the points; their order by sorting text. Any 64-bit number: the engine, tests/independent_engine.rs, which takes parts from the
+largest down by what n leaves modulo the part taken last. test_best finds its best chains by growth from the smallest part too
+(tests/grown.py). At every run check_003 holds the engine to the search, on whole lists.
+
+Not shared with the crates:
+- any code;
+- their table of n halved a times and thirded b times, and its filling by remainders: the engine has no quotient of n;
+- the six relations: check_003 tries them on the engine's counts;
+- the two readers: here a pattern on text says whether a word is good;
+- positions by adding up, along a word, the chains that turn off to a: here all words are compared as text, many at a time;
+- the best chain's numeric keys: here parts, price and text are compared.
+
+Shared with the crates:
+- the definitions of document 01 and 003, and the order of the refusals;
+- that what follows a part sums to less than the part;
+- that a best chain is best up to each of its points, so that one chain a point is enough;
+- that the letters between two parts are those of a run of b and a run of a. The engine writes them so, as crates/words does; word_of below
+  walks point by point, and the engine's `position` knows no word that the two write differently;
+- that a price may be added up letter by letter. The engine does, as crates/best does; `best` below holds the sum to document 01's price;
+- that a chain at a position is found from its smallest part up: here part by part, in crates/ranking letter by letter.
 """
+import atexit
+import functools
 import itertools
+import os
 import random
 import re
+import subprocess
 import sys
+import tempfile
 
 import grown
 
@@ -63,24 +88,6 @@ def chains_of(n):
     return found
 
 
-COUNTS = {0: 1, 1: 1}
-
-
-def count(n):
-    """The count of any n by 003's relations on n itself, remembered; whole numbers of any size."""
-    if n not in COUNTS:
-        u, r = divmod(n, 6)
-        COUNTS[n] = {
-            0: lambda: count(2 * u) + count(3 * u) - count(u),
-            1: lambda: count(2 * u) + count(3 * u) - count(u),
-            2: lambda: count(3 * u + 1),
-            3: lambda: count(3 * u + 1) + count(2 * u + 1),
-            4: lambda: count(3 * u + 2) + count(2 * u + 1),
-            5: lambda: count(3 * u + 2),
-        }[r]()
-    return COUNTS[n]
-
-
 def word_of(chain):
     """The walk from (0, 0) to the largest part through all parts, b before a wherever the parts allow both."""
     if not chain:
@@ -114,59 +121,60 @@ def sum_of(chain):
     return sum(2**a * 3**b for a, b in chain)
 
 
-def after_a(m):
-    """How many chains of m may follow a rise of a: those with a part that 3 does not divide."""
-    return count(m) - (count(m // 3) if m % 3 == 0 else 0) if m else 0
+# ---- numbers of any size, by the engine
+
+
+@functools.cache
+def engine():
+    """The engine, built and started at the first question. Its file may go once it runs. It ends where its standard input does."""
+    source = os.path.join(os.path.dirname(os.path.abspath(__file__)), "independent_engine.rs")
+    with tempfile.TemporaryDirectory() as folder:
+        program = os.path.join(folder, "engine")
+        subprocess.run(["rustc", "--edition", "2021", "-O", "-o", program, source], check=True)
+        running = subprocess.Popen([program], stdin=subprocess.PIPE, stdout=subprocess.PIPE, text=True)
+    atexit.register(running.communicate)
+    return running
+
+
+def ask(*question):
+    """The fields of the engine's answer, or None; the empty word stands there as a dash."""
+    program = engine()
+    program.stdin.write(" ".join(str(field) or "-" for field in question) + "\n")
+    program.stdin.flush()
+    told = program.stdout.readline()
+    if not told.endswith("\n"):
+        sys.exit(f"the engine ended at {question}")
+    return None if told == "none\n" else ["" if field == "-" else field for field in told.split()]
+
+
+def count(n):
+    return int(ask("count", n)[0])
 
 
 def position_of(word):
-    """The number of chains before it in the list of its number, by counting those that turn off to the lower letter."""
-    m, before = sum_of(chain_of(word)), 0
-    for letter in word[:-1]:
-        if letter in "23":
-            before += after_a(m // 2)
-        m //= 2 if letter in "01" else 3
-    return before
+    """The number of chains before it in the list of its number."""
+    return int(ask("position", sum_of(chain_of(word)), word)[0])
 
 
 def word_at(n, position):
     """The word at a position below the count."""
-    word, m = "", n
-    while m > 1:
-        lower = after_a(m // 2)
-        if position < lower:
-            word += str(m % 2)
-            m //= 2
-        else:
-            position -= lower
-            word += str(2 + m % 3)
-            m //= 3
-    return word + "3" if n else ""
+    return ask("at", n, position)[0]
+
+
+def price_of(chain, d, t, s):
+    """Document 01's price."""
+    return d * chain[0][0] + t * chain[0][1] + s * (len(chain) - 1) if chain else 0
 
 
 def best(n, parts, most_a, most_b, d, t, s):
-    """The best chain's (parts, price, word), or None: by memory of (point, reader), comparing parts, then price, then the text."""
-    known = {}
-
-    def at(m, a, b, free):
-        if a > most_a or b > most_b:
-            return None
-        if m == 1:
-            return (1, 0, "3")
-        if (a, b, free) not in known:
-            ways = []
-            left = at(m // 2, a + 1, b, False)
-            if left:
-                ways.append((left[0] + m % 2, left[1] + d + s * (m % 2), str(m % 2) + left[2]))
-            if m % 3 == 1 or (m % 3 == 0 and free):
-                left = at(m // 3, a, b + 1, True)
-                if left:
-                    ways.append((left[0] + m % 3, left[1] + t + s * (m % 3), str(2 + m % 3) + left[2]))
-            known[a, b, free] = min(ways) if ways else None
-        return known[a, b, free]
-
-    found = at(n, 0, 0, True) if n else (0, 0, "")
-    return found if found and (n == 0 or found[0] <= parts) else None
+    """The best chain's (parts, price, word), or None."""
+    found = ask("best", n, parts, most_a, most_b, d, t, s)
+    if found is None:
+        return None
+    k, price, word = int(found[0]), int(found[1]), found[2]
+    chain = chain_of(word)
+    assert sum_of(chain) == n and len(chain) == k and price_of(chain, d, t, s) == price
+    return k, price, word
 
 
 def good(word):
@@ -191,8 +199,13 @@ def maxima(counts):
     return found
 
 
+BY_SEARCH = [65535, 65536, 10**6, 3**13 + 1, 2**20 * 3 - 1, 2**12 * 3**7]
+CHECKED_LIMITS = [(64, 63, 40), (255, 255, 255), (2, 63, 40), (3, 63, 40), (64, 3, 2), (64, 63, 0), (64, 0, 40), (64, 5, 3), (0, 0, 0)]
+CHECKED_PRICES = [(4, 7, 9), (0, 0, 0), (1, 0, 5), (9, 1, 1), (65535, 65535, 65535)]
+
+
 def check_003():
-    """What 003 and document 01 print, against the brute force."""
+    """What 003 and document 01 print, and what the engine answers, against the brute force."""
     lists = listing(400)
     counts = [len(l) for l in lists]
     assert maxima(counts)[:11] == list(
@@ -206,15 +219,44 @@ def check_003():
     assert answer(LISTING) == REPLIES
     assert count((2**36 * 3**19 - 27) // 5) == 16152526311 and count(10**6) == 497 and count(3 * 2**62 - 1) == 1
     for n, entries in enumerate(lists):
-        assert count(n) == len(entries)
-        for i, (word, chain) in enumerate(entries):
-            assert word_at(n, i) == word and position_of(word) == i and chain_of(word) == chain
-        for parts, a, b, d, t, s in ((64, 63, 40, 4, 7, 9), (2, 63, 40, 0, 0, 0), (64, 3, 2, 1, 0, 5), (64, 63, 0, 9, 1, 1)):
-            within = [c for _, c in entries if len(c) <= parts and all(x <= a and y <= b for x, y in c)]
-            price = lambda c: d * c[0][0] + t * c[0][1] + s * (len(c) - 1) if c else 0
-            least = min(((len(c), price(c), word_of(c)) for c in within), default=None)
-            assert best(n, parts, a, b, d, t, s) == least
-        assert all(good(w) for w, _ in entries) and len({w for w, _ in entries}) == len(entries)
+        check_list(n, entries)
+    for n in BY_SEARCH:
+        check_list(n, sorted((word_of(c), c) for c in chains_of(n)))
+    chance = random.Random(3)
+    for n in [*EDGES, *SPECIAL, *(chance.getrandbits(64) for _ in range(100))]:
+        check_relations(min(n, LIMIT - 6) // 6)
+        check_back(n, chance)
+
+
+def check_list(n, entries):
+    """The engine's answers on a number against its whole list: the count, each position, each chain, and the best within limits."""
+    assert count(n) == len(entries) and ask("at", n, len(entries)) is None
+    for i, (word, chain) in enumerate(entries):
+        assert good(word) and word_at(n, i) == word and position_of(word) == i and chain_of(word) == chain
+    assert len({word for word, _ in entries}) == len(entries)
+    for i, limits in enumerate(CHECKED_LIMITS):
+        prices = CHECKED_PRICES[(n + i) % 5]
+        least = listed_best(entries, limits, prices)
+        assert best(n, *limits, *prices) == (least and (least[0], least[1], word_of(least[3])))
+
+
+def check_relations(u):
+    """003's relations 6 and 7, which the engine does not use."""
+    w = count
+    assert w(6 * u) == w(6 * u + 1) == w(2 * u) + w(3 * u) - w(u)
+    assert w(6 * u + 2) == w(3 * u + 1) and w(6 * u + 3) == w(3 * u + 1) + w(2 * u + 1)
+    assert w(6 * u + 4) == w(3 * u + 2) + w(2 * u + 1) and w(6 * u + 5) == w(3 * u + 2)
+
+
+def check_back(n, chance):
+    """A position and its word lead to each other, and words ascend with their positions; a word with another sum has no position."""
+    places = sorted({0, count(n) - 1, *(chance.randrange(count(n)) for _ in range(3))})
+    words = [word_at(n, i) for i in places]
+    assert words == sorted(words) and ask("at", n, count(n)) is None
+    for i, word in zip(places, words):
+        chain = chain_of(word)
+        assert good(word) and word_of(chain) == word and sum_of(chain) == n and position_of(word) == i
+        assert ask("position", n ^ 1, word) is None
 
 
 # ---- lines and replies
@@ -651,8 +693,17 @@ def listed_best(entries, limits, prices):
     for i, (_, c) in enumerate(entries):
         a, b = c[0] if c else (0, 0)
         if not c or (len(c) <= most and a <= most_a and b <= most_b):
-            fitting.append((len(c), d * a + t * b + s * (len(c) - 1) if c else 0, i, c))
+            fitting.append((len(c), price_of(c, d, t, s), i, c))
     return min(fitting) if fitting else None
+
+
+def best_twice(n, limits, prices):
+    """(position, parts, price, chain) of the best chain, or None: by the engine and by growth from the smallest part, which agree."""
+    found = best(n, *limits, *prices)
+    placed = found and (position_of(found[2]), found[0], found[1], chain_of(found[2]))
+    again = grown.best(n, limits, prices)
+    assert placed == (again and (*again[:3], list(again[3])))
+    return placed
 
 
 def told(found):
@@ -667,7 +718,7 @@ def around_line(n, i, free, prices):
     text = ""
     for at, limit in (0, k - 1), (0, k), (0, k + 1), (1, a - 1 + i % 3), (2, b - 1 + i // 3 % 3):
         limits = tuple(max(limit, 0) if j == at else 255 for j in range(3))
-        found = grown.best(n, limits, prices)
+        found = best_twice(n, limits, prices)
         text += ("5" if found is None else "=" if found[0] == position else "%d %d %d" % found[:3]) + " "
     return text
 
@@ -676,7 +727,7 @@ def left_line(n, limits, size, places):
     """The answer, then how far zeros and then what was there before reach: in the scratch, and in the places behind the parts."""
     if size < 5248 or places < 64:
         return f"1 0 {size} 0 {places}"
-    found = grown.best(n, limits, PRICES[0])
+    found = best_twice(n, limits, PRICES[0])
     return f"5 5248 {size} 0 {places}" if found is None else f"{told(found)} 5248 {size} 64 {places}"
 
 
@@ -687,12 +738,12 @@ def test_best():
             limits, prices = LIMITS[i % 10], PRICES[(n + i) % 6]
             found = listed_best(entries, limits, prices)
             line = "5" if found is None else told((found[2], found[0], found[1], found[3]))
-            again = grown.best(n, limits, prices)
+            again = best_twice(n, limits, prices)
             assert line == ("5" if again is None else told(again))
             yield line
         grown.forget()
     for i, n in enumerate(shifts(1000)):
-        free = grown.best(n, FREE, PRICES[i % 6])
+        free = best_twice(n, FREE, PRICES[i % 6])
         yield told(free)
         yield around_line(n, i, free, PRICES[i % 6])
         grown.forget()
@@ -754,6 +805,7 @@ def test_parts():
 
 
 @what
+@functools.cache
 def lines():
     """Every kind for all numbers to 200; refusals; random and damaged lines; empty lines; a last line without its byte 10."""
     some = [b"", b"", *some_lines(1, 20000), b"", LISTING.split(b"\n")[0]]
@@ -766,15 +818,26 @@ def replies():
     return answer(lines())
 
 
+def made(name):
+    """What is to be written, as bytes."""
+    text = WHATS[name]()
+    if isinstance(text, bytes):
+        return text
+    return (text if isinstance(text, str) else "".join(line + "\n" for line in text)).encode()
+
+
 def main():
-    if len(sys.argv) != 2 or sys.argv[1] not in WHATS:
+    folder = sys.argv[2] if sys.argv[1:2] == ["--into"] and len(sys.argv) > 2 else None
+    names = sys.argv[3:] if folder else sys.argv[1:]
+    if any(name not in WHATS for name in names) or not (names if folder else len(names) == 1):
         sys.exit(__doc__ + "\nWHAT: " + " ".join(sorted(WHATS)))
     check_003()
-    made = WHATS[sys.argv[1]]()
-    if isinstance(made, bytes):
-        sys.stdout.buffer.write(made)
-    else:
-        sys.stdout.write(made if isinstance(made, str) else "".join(line + "\n" for line in made))
+    for name in names:
+        if folder:
+            with open(os.path.join(folder, name), "wb") as file:
+                file.write(made(name))
+        else:
+            sys.stdout.buffer.write(made(name))
 
 
 if __name__ == "__main__":

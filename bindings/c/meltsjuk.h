@@ -15,7 +15,8 @@
  *   - no two pieces of memory that are lent to one call overlap, also not the single numbers that are written through a pointer;
  *   - nothing else reads or writes them before the call returns.
  *
- * Nothing is allocated, and nothing is kept between calls, so threads may call at the same time with memory of their own.
+ * Nothing is allocated, and nothing is kept between calls, so threads may call at the same time with memory of their own. A thread
+ * whose stack is MELTSJUK_STACK bytes can make every call. Signal handlers and the caller's own functions need theirs besides.
  *
  * Too little lent is refused first of all, and then nothing is written. On every other return the first MELTSJUK_SCRATCH numbers of
  * the scratch are zero and those after them are as they were. More may be lent than is asked for.
@@ -29,6 +30,7 @@
 #define MELTSJUK_SCRATCH 5248 /* the least numbers of a scratch */
 #define MELTSJUK_PLACES 64    /* the least places for part numbers; a chain has at most so many parts */
 #define MELTSJUK_REPLY 514    /* the least bytes for a reply */
+#define MELTSJUK_STACK 32768  /* bytes of stack, enough for a thread that makes any of the calls */
 
 /* What meltsjuk_count and meltsjuk_best answer. */
 #define MELTSJUK_SERVED 0      /* the answer stands where the caller asked for it */

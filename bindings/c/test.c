@@ -2,19 +2,27 @@
  *
  * Without an argument: the reply to each line of standard input, a line each, as the program `intake` writes them.
  * With the argument `calls`: the same for lines of kinds 01 and 02 of the right length, by the calls for the count and the best
- * chain, whose answers are written here as replies. */
+ * chain, whose answers are written here as replies.
+ *
+ * Every call is made on a thread of its own with a stack of MELTSJUK_STACK bytes. The page below the stack must not be touched: a
+ * call that needs more stack ends the program by a signal. */
+#define _DEFAULT_SOURCE
 #define _POSIX_C_SOURCE 200809L
 #include "meltsjuk.h"
 
 #include <inttypes.h>
+#include <pthread.h>
 #include <stdio.h>
 #include <stdlib.h>
 #include <string.h>
+#include <sys/mman.h>
 #include <sys/types.h>
+#include <unistd.h>
 
 static uint64_t scratch[MELTSJUK_SCRATCH];
 static uint16_t places[MELTSJUK_PLACES];
 static uint8_t out[MELTSJUK_REPLY];
+static pthread_attr_t small; /* a thread with just as much stack */
 
 static void must(int holds, const char *what)
 {
@@ -24,8 +32,25 @@ static void must(int holds, const char *what)
     }
 }
 
+static void make_small(void)
+{
+    size_t page = (size_t)sysconf(_SC_PAGESIZE);
+    char *memory = mmap(NULL, page + MELTSJUK_STACK, PROT_READ | PROT_WRITE, MAP_PRIVATE | MAP_ANONYMOUS, -1, 0);
+
+    must(memory != MAP_FAILED && mprotect(memory, page, PROT_NONE) == 0, "no memory for a stack");
+    must(pthread_attr_init(&small) == 0 && pthread_attr_setstack(&small, memory + page, MELTSJUK_STACK) == 0,
+         "a thread cannot have a stack of MELTSJUK_STACK bytes");
+}
+
+static void on_small_stack(void *(*calls)(void *), void *argument)
+{
+    pthread_t thread;
+
+    must(pthread_create(&thread, &small, calls, argument) == 0 && pthread_join(thread, NULL) == 0, "no thread");
+}
+
 /* One number or byte less than is asked for: each call refuses, and what it would write to is as it was. */
-static void too_little(void)
+static void *too_little(void *unused)
 {
     const uint8_t line[18] = "010000000000000013";
     uint64_t count = 7, position = 7, k = 7, price = 7;
@@ -49,7 +74,16 @@ static void too_little(void)
          "a chain of one part for 5");
     must(scratch[0] == 0 && places[0] == 7, "what is left where none fits");
     must(position == 7 && k == 7 && price == 7, "numbers written although none fits");
+    return unused;
 }
+
+/* A line, and what the call for it answers. */
+struct request {
+    const char *line;
+    size_t length;
+    uint64_t digits, count, position, k, price;
+    uint8_t status;
+};
 
 /* The value of `bytes` bytes of a line, from byte `at` on. */
 static uint64_t field(const char *line, size_t at, size_t bytes)
@@ -60,47 +94,68 @@ static uint64_t field(const char *line, size_t at, size_t bytes)
     return strtoull(digits, NULL, 16);
 }
 
-static void reply_by_count(const char *line)
+static void *call_reply(void *request)
 {
-    uint64_t count;
+    struct request *r = request;
 
-    must(meltsjuk_count(field(line, 1, 8), scratch, MELTSJUK_SCRATCH, &count) == MELTSJUK_SERVED, "a count is refused");
-    printf("00%016" PRIX64 "\n", count);
+    r->digits = meltsjuk_reply((const uint8_t *)r->line, r->length, scratch, MELTSJUK_SCRATCH, out, MELTSJUK_REPLY);
+    return NULL;
 }
 
-static void reply_by_best(const char *line)
+static void *call_count(void *request)
 {
-    uint64_t n = field(line, 1, 8), position, k, price;
-    uint8_t status = meltsjuk_best(n, (uint8_t)field(line, 9, 1), (uint8_t)field(line, 10, 1), (uint8_t)field(line, 11, 1),
-                                   (uint16_t)field(line, 12, 2), (uint16_t)field(line, 14, 2), (uint16_t)field(line, 16, 2),
-                                   scratch, MELTSJUK_SCRATCH, places, MELTSJUK_PLACES, &position, &k, &price);
+    struct request *r = request;
 
-    printf("%02X", status);
-    if (status == MELTSJUK_SERVED) {
-        printf("%016" PRIX64 "%016" PRIX64 "%02X", n, position, (unsigned)k);
-        for (uint64_t i = 0; i < k; i++)
+    r->status = meltsjuk_count(field(r->line, 1, 8), scratch, MELTSJUK_SCRATCH, &r->count);
+    return NULL;
+}
+
+static void *call_best(void *request)
+{
+    struct request *r = request;
+
+    r->status = meltsjuk_best(field(r->line, 1, 8), (uint8_t)field(r->line, 9, 1), (uint8_t)field(r->line, 10, 1),
+                              (uint8_t)field(r->line, 11, 1), (uint16_t)field(r->line, 12, 2), (uint16_t)field(r->line, 14, 2),
+                              (uint16_t)field(r->line, 16, 2), scratch, MELTSJUK_SCRATCH, places, MELTSJUK_PLACES, &r->position,
+                              &r->k, &r->price);
+    return NULL;
+}
+
+static void reply_by_count(struct request *r)
+{
+    on_small_stack(call_count, r);
+    must(r->status == MELTSJUK_SERVED, "a count is refused");
+    printf("00%016" PRIX64 "\n", r->count);
+}
+
+static void reply_by_best(struct request *r)
+{
+    on_small_stack(call_best, r);
+    printf("%02X", r->status);
+    if (r->status == MELTSJUK_SERVED) {
+        printf("%016" PRIX64 "%016" PRIX64 "%02X", field(r->line, 1, 8), r->position, (unsigned)r->k);
+        for (uint64_t i = 0; i < r->k; i++)
             printf("%04X", places[i]);
-        printf("%08" PRIX64, price);
+        printf("%08" PRIX64, r->price);
     }
     printf("\n");
 }
 
-static void reply_by_call(const char *line, size_t length)
+static void reply_by_call(struct request *r)
 {
-    if (length == 18 && strncmp(line, "01", 2) == 0)
-        reply_by_count(line);
-    else if (length == 36 && strncmp(line, "02", 2) == 0)
-        reply_by_best(line);
+    if (r->length == 18 && strncmp(r->line, "01", 2) == 0)
+        reply_by_count(r);
+    else if (r->length == 36 && strncmp(r->line, "02", 2) == 0)
+        reply_by_best(r);
     else
         must(0, "a line that no call serves");
 }
 
-static void reply_by_line(const char *line, size_t length)
+static void reply_by_line(struct request *r)
 {
-    uint64_t digits = meltsjuk_reply((const uint8_t *)line, length, scratch, MELTSJUK_SCRATCH, out, MELTSJUK_REPLY);
-
-    must(digits >= 2, "a line gets no reply");
-    fwrite(out, 1, (size_t)digits, stdout);
+    on_small_stack(call_reply, r);
+    must(r->digits >= 2, "a line gets no reply");
+    fwrite(out, 1, (size_t)r->digits, stdout);
     putchar('\n');
 }
 
@@ -111,18 +166,19 @@ int main(int argc, char **argv)
     size_t room = 0;
     ssize_t got;
 
-    too_little();
+    make_small();
     while ((got = getline(&line, &room, stdin)) > 0) {
-        size_t length = (size_t)got;
+        struct request r = {.line = line, .length = (size_t)got};
 
-        if (line[length - 1] == '\n')
-            length--;
+        if (line[r.length - 1] == '\n')
+            r.length--;
         if (calls)
-            reply_by_call(line, length);
+            reply_by_call(&r);
         else
-            reply_by_line(line, length);
+            reply_by_line(&r);
     }
     free(line);
+    on_small_stack(too_little, NULL);
     must(!ferror(stdin) && fflush(stdout) == 0, "reading or writing failed");
     return 0;
 }

@@ -3,6 +3,7 @@
 //! A chain writes a number as a sum of parts 2^a × 3^b, each a proper multiple of the next: 19 = 18 + 1. A [`Terminal`] counts the
 //! chains of a number, finds its best chain, and replies to lines of hexadecimal. The library behind it is proved to meet its
 //! contracts in crates/meltsjuk/src/lib.rt for every argument; this package lends it the memory that it asks for. For x86-64 Linux.
+//! A thread of Rust's usual size has stack enough; bindings/c/meltsjuk.h says how much a call needs.
 //!
 //! ```
 //! let mut terminal = meltsjuk::Terminal::new();

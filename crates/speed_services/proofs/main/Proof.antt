@@ -1,6 +1,6 @@
 use borrow.Author.Needs.{needs}
-use Rattle.bench_services.proofs.main.Statement.{statement}
-use Rattle.bench_services.proofs.main.Tie as tie
+use Rattle.speed_services.proofs.main.Statement.{statement}
+use Rattle.speed_services.proofs.main.Tie as tie
 
 pub main-spec : {M : Type 1} → statement M
 main-spec =

@@ -3,8 +3,8 @@ use mathlib.Core.Path.{_≡_}
 use Prim.Native.Nat.{_≤_, _-_}
 use lib.ListN.{length}
 use borrow.Author.Needs.{needs}
-use Rattle.bench_services.proofs.sum_of_block.Statement.{statement}
-use Rattle.bench_services.proofs.sum_of_block.Tie as tie
+use Rattle.speed_services.proofs.sum_of_block.Statement.{statement}
+use Rattle.speed_services.proofs.sum_of_block.Tie as tie
 
 abbrev Inv-loop : tie.InvT-loop
 Inv-loop scratch₀ numbers positions sum₀ i₀ scratch sum i = (length scratch ≡ length scratch₀) × (i ≤ 500)

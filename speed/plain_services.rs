@@ -2,7 +2,7 @@
 //! SERVICE: 1 count, 2 best chain, 3 chain at a position.
 mod plain;
 
-/// The next number of the sequence (xorshift), the same as in crates/bench_services.
+/// The next number of the sequence (xorshift), the same as in crates/speed_services.
 fn next(x: u64) -> u64 {
     let x = x ^ (x << 13);
     let x = x ^ (x >> 7);

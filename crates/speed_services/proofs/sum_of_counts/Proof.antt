@@ -3,8 +3,8 @@ use mathlib.Core.Path.{_≡_}
 use Prim.Native.Nat.{_≤_, _<_, _-_, _^_}
 use lib.ListN.{length}
 use borrow.Author.Needs.{needs}
-use Rattle.bench_services.proofs.sum_of_best.Statement.{statement}
-use Rattle.bench_services.proofs.sum_of_best.Tie as tie
+use Rattle.speed_services.proofs.sum_of_counts.Statement.{statement}
+use Rattle.speed_services.proofs.sum_of_counts.Tie as tie
 
 abbrev Inv-loop : tie.InvT-loop
 Inv-loop times scratch₀ x₀ sum₀ i₀ scratch x sum i = (length scratch ≡ length scratch₀) × (i ≤ times) × (sum < 2 ^ 64) × (x < 2 ^ 64)
@@ -12,14 +12,13 @@ Inv-loop times scratch₀ x₀ sum₀ i₀ scratch x sum i = (length scratch ≡
 abbrev μ-loop : tie.MeasureT-loop
 μ-loop times scratch₀ x₀ sum₀ i₀ scratch x sum i = times - i
 
-pub sum-of-best-spec : {M : Type 1} → statement M
-sum-of-best-spec =
+pub sum-of-counts-spec : {M : Type 1} → statement M
+sum-of-counts-spec =
     tie.close
     (tie.spec
     Inv-loop
     μ-loop
     (λ c. search needs)
-    (λ c κs. search needs)
     (λ c κs. search needs)
     (λ c κs. search needs)
     (λ c κs. search needs)

@@ -1,0 +1,282 @@
+// Counts, places, finds and chooses the chains of any 64-bit number, for tests/independent.py: a question a line, an answer a line.
+//
+//     count N                 how many chains N has
+//     position N WORD         how many words of the list of N come before WORD, or `none` where WORD is not in the list
+//     at N POSITION           the word at a position, or `none` where the list is not that long
+//     best N K A B D T S      parts, price and word of the best chain within the limits K, A, B at the prices D, T, S, or `none`
+//
+// The road: a chain is built from its largest part down. What follows a part is a sum of parts, each at most half of the one before, thus
+// less than the part. So once a part q is taken, n mod q is left, whatever was taken before: all that is a multiple of q. If nothing is
+// left, the chain ends. If r is left, the next part is a proper divisor p of q with p <= r < 2p. So what can follow q depends on q and n
+// alone, and the chains of n are the paths of a graph: its points are parts, a path begins at a part p with p <= n < 2p and ends at one
+// that divides n. Every answer is read off this graph.
+//
+// Words are text and are compared as text. The letters before a part's own point depend on the smaller parts alone, and there are a + b of
+// them. The number 0 is answered apart; `-` stands for the empty word.
+use std::cmp::Ordering;
+use std::io::{self, BufRead, Write};
+
+/// A part by its exponents, its value and its number in ascending order.
+#[derive(Clone, Copy)]
+struct Part {
+    a: usize,
+    b: usize,
+    value: u64,
+    number: usize,
+}
+
+/// The 1,344 parts: a row for each b, ascending.
+fn rows() -> Vec<Vec<Part>> {
+    let mut parts = Vec::new();
+    for (a, b) in (0..64).flat_map(|a| (0..41).map(move |b| (a, b))) {
+        let value = 2u128.pow(a) * 3u128.pow(b);
+        if value < 1 << 64 {
+            parts.push(Part { a: a as usize, b: b as usize, value: value as u64, number: 0 });
+        }
+    }
+    parts.sort_by_key(|p| p.value);
+    let mut rows = vec![Vec::new(); 41];
+    for (number, part) in parts.into_iter().enumerate() {
+        rows[part.b].push(Part { number, ..part });
+    }
+    rows
+}
+
+/// The parts p with p <= r < 2p and exponents up to these. A row has at most one, its highest up to r, and the a of these rises as b falls.
+fn leading(r: u64, most_a: usize, most_b: usize, rows: &[Vec<Part>]) -> impl Iterator<Item = Part> + '_ {
+    let highest = move |row: &Vec<Part>| row.partition_point(|p| p.value <= r).checked_sub(1).map(|i| row[i]);
+    rows[..=most_b].iter().rev().filter_map(highest).take_while(move |p| p.a <= most_a)
+}
+
+/// A point of the graph: a part, whether chains end with it, and the points that it can follow. It follows none exactly if it can be the
+/// largest part: one that follows another is at most half of it, and so of n.
+struct Point {
+    a: usize,
+    b: usize,
+    smallest: bool,
+    above: Vec<usize>,
+}
+
+/// The points that a path can come to, largest first, so that all that lead to a point stand before it.
+fn graph(n: u64, rows: &[Vec<Part>]) -> Vec<Point> {
+    let mut met: Vec<Option<(Part, Vec<usize>)>> = vec![None; rows.iter().map(Vec::len).sum()];
+    for part in leading(n, 63, 40, rows) {
+        met[part.number] = Some((part, Vec::new()));
+    }
+    let mut points = Vec::new();
+    for i in (0..met.len()).rev() {
+        if let Some((Part { a, b, value, .. }, above)) = met[i].take() {
+            let rest = n % value;
+            for next in leading(rest, a, b, rows) {
+                met[next.number].get_or_insert((next, Vec::new())).1.push(points.len());
+            }
+            points.push(Point { a, b, smallest: rest == 0, above });
+        }
+    }
+    points
+}
+
+/// The letters of the points passed from one to another that is x further in a and y in b, the other's own not among them: b rises first.
+fn letters(x: usize, y: usize, from_part: bool) -> Vec<u8> {
+    let mut told = vec![b'2'; y];
+    told.resize(x + y, b'0');
+    if from_part {
+        told[0] += 1;
+    }
+    told
+}
+
+fn letters_before(smallest: &Point) -> Vec<u8> {
+    letters(smallest.a, smallest.b, false)
+}
+
+fn letters_between(low: &Point, high: &Point) -> Vec<u8> {
+    letters(high.a - low.a, high.b - low.b, true)
+}
+
+/// How many chains lead down from each point, the smallest point first; then their sum over the largest parts.
+fn count(points: &[Point]) -> u64 {
+    let mut chains = vec![0; points.len()];
+    let mut total = 0;
+    for (i, q) in points.iter().enumerate().rev() {
+        chains[i] += q.smallest as u64;
+        for &j in &q.above {
+            chains[j] += chains[i];
+        }
+        total += if q.above.is_empty() { chains[i] } else { 0 };
+    }
+    total
+}
+
+/// How many of some words that begin alike are earlier than the word sought, and how many are the same as far as they go.
+#[derive(Clone, Copy, Default)]
+struct Standing {
+    earlier: u64,
+    same: u64,
+}
+
+impl Standing {
+    /// Takes in words that went on by these letters, where the word sought went on by those.
+    fn take(&mut self, before: Standing, these: impl Fn() -> Vec<u8>, those: &[u8]) {
+        self.earlier += before.earlier;
+        if before.same > 0 {
+            match these()[..].cmp(those) {
+                Ordering::Less => self.earlier += before.same,
+                Ordering::Equal => self.same += before.same,
+                Ordering::Greater => {}
+            }
+        }
+    }
+}
+
+/// The place of a word. For each point, over all chains that lead down from it: how the letters before it stand to the word sought.
+fn position(points: &[Point], word: &[u8]) -> Option<u64> {
+    let cut = |i: usize, j: usize| &word[i.min(word.len())..j.min(word.len())];
+    let one = Standing { earlier: 0, same: 1 };
+    let mut standing = vec![Standing::default(); points.len()];
+    let mut whole = Standing::default();
+    for (i, q) in points.iter().enumerate().rev() {
+        let here = q.a + q.b;
+        if q.smallest {
+            standing[i].take(one, || letters_before(q), cut(0, here));
+        }
+        let so_far = standing[i];
+        for &j in &q.above {
+            let high = &points[j];
+            standing[j].take(so_far, || letters_between(q, high), cut(here, high.a + high.b));
+        }
+        if q.above.is_empty() {
+            whole.take(so_far, || vec![b'3'], cut(here, word.len()));
+        }
+    }
+    (whole.same == 1).then_some(whole.earlier)
+}
+
+/// The word at a position, from the smallest part up. The words still in question fall into groups by their letters up to and with the next
+/// part's own, 1 or 3. No group's letters begin another's, so the groups stand one after another in the list.
+fn at(points: &[Point], position: u64) -> Option<Vec<u8>> {
+    // how many ways lead from the largest parts down to a point: with a rising from the point, and with b rising or none above it
+    let mut ways = vec![[0, 0]; points.len()];
+    for (i, q) in points.iter().enumerate() {
+        ways[i][1] += q.above.is_empty() as u64;
+        for &j in &q.above {
+            ways[i][(points[j].b > q.b) as usize] += ways[j][0] + ways[j][1];
+        }
+    }
+    let (mut left, mut word) = (position, Vec::new());
+    let smallest = (0..points.len()).filter(|&i| points[i].smallest);
+    let mut next: Vec<(Vec<u8>, usize)> = smallest.map(|i| (letters_before(&points[i]), i)).collect();
+    loop {
+        let mut groups = Vec::new();
+        for (told, i) in &next {
+            groups.push(([told, &b"1"[..]].concat(), *i, ways[*i][0]));
+            groups.push(([told, &b"3"[..]].concat(), *i, ways[*i][1]));
+        }
+        groups.sort();
+        let mut groups = groups.into_iter();
+        let (mut told, i, _) = loop {
+            let group = groups.next()?;
+            if left < group.2 {
+                break group;
+            }
+            left -= group.2;
+        };
+        let (q, letter) = (&points[i], told.pop());
+        word.extend(told);
+        if q.above.is_empty() {
+            word.extend(letter);
+            return Some(word);
+        }
+        let above = q.above.iter().filter(|&&j| (points[j].b > q.b) == (letter == Some(b'3')));
+        next = above.map(|&j| (letters_between(q, &points[j]), j)).collect();
+    }
+}
+
+struct Prices {
+    doubling: u64,
+    tripling: u64,
+    addition: u64,
+}
+
+impl Prices {
+    /// What letters cost, a word's last not among them: each is a doubling or a tripling, and an addition where its point is a part.
+    fn of(&self, told: &[u8]) -> u64 {
+        let one = |letter: &u8| match letter {
+            b'0' => self.doubling,
+            b'1' => self.doubling + self.addition,
+            b'2' => self.tripling,
+            _ => self.tripling + self.addition,
+        };
+        told.iter().map(one).sum()
+    }
+}
+
+/// Parts, price, letters: a chain is better where this is less, compared in this order.
+type Merit = (u64, u64, Vec<u8>);
+
+fn better(one: &mut Option<Merit>, other: Merit) {
+    if one.as_ref().map_or(true, |one| other < *one) {
+        *one = Some(other);
+    }
+}
+
+/// For each point the best of the chains that lead down from it, by the letters before it, which are equally many for all of these chains;
+/// then the best over the largest parts within the limits. Fewest parts come first, so K only says whether the best will do.
+fn best(points: &[Point], [most_parts, most_a, most_b]: [u64; 3], prices: &Prices) -> Option<Merit> {
+    let mut least = vec![None; points.len()];
+    let mut whole = None;
+    for (i, q) in points.iter().enumerate().rev() {
+        if q.smallest {
+            let told = letters_before(q);
+            better(&mut least[i], (1, prices.of(&told), told));
+        }
+        if let Some((k, price, before)) = least[i].take() {
+            for &j in &q.above {
+                let told = letters_between(q, &points[j]);
+                better(&mut least[j], (k + 1, price + prices.of(&told), [&before[..], &told].concat()));
+            }
+            if q.above.is_empty() && q.a as u64 <= most_a && q.b as u64 <= most_b {
+                better(&mut whole, (k, price, [&before[..], b"3"].concat()));
+            }
+        }
+    }
+    whole.filter(|&(k, _, _)| k <= most_parts)
+}
+
+fn answer(kind: &str, n: u64, more: &[&str], points: &[Point]) -> Option<String> {
+    let number = |i: usize| more[i].parse::<u64>().expect("a number");
+    let text = |word| String::from_utf8(word).expect("letters");
+    match (kind, n) {
+        ("count", 0) => Some("1".to_string()),
+        ("count", _) => Some(count(points).to_string()),
+        ("position", 0) => (more[0] == "-").then(|| "0".to_string()),
+        ("position", _) => position(points, more[0].as_bytes()).map(|before| before.to_string()),
+        ("at", 0) => (number(0) == 0).then(|| "-".to_string()),
+        ("at", _) => at(points, number(0)).map(text),
+        ("best", 0) => Some("0 0 -".to_string()),
+        ("best", _) => {
+            let prices = Prices { doubling: number(3), tripling: number(4), addition: number(5) };
+            let found = best(points, [number(0), number(1), number(2)], &prices);
+            found.map(|(k, price, word)| format!("{k} {price} {}", text(word)))
+        }
+        _ => panic!("no such question: {kind}"),
+    }
+}
+
+fn main() {
+    let rows = rows();
+    let (mut n, mut points) = (0, Vec::new());
+    let mut out = io::stdout().lock();
+    for line in io::stdin().lock().lines() {
+        let line = line.expect("standard input");
+        let fields: Vec<&str> = line.split(' ').collect();
+        let asked = fields[1].parse().expect("a 64-bit number");
+        if asked != n {
+            // questions on one number often follow each other
+            n = asked;
+            points = graph(n, &rows);
+        }
+        let told = answer(fields[0], n, &fields[2..], &points).unwrap_or("none".to_string());
+        writeln!(out, "{told}").and_then(|_| out.flush()).expect("standard output");
+    }
+}
