@@ -1,4 +1,5 @@
-// Counts, places, finds and chooses the chains of any 64-bit number, for tests/independent.py: a question a line, an answer a line.
+// The chains of any 64-bit number, for tests/independent.py: how many there are, their positions, the best. A question a line, an answer a
+// line.
 //
 //     count N                 how many chains N has
 //     position N WORD         how many words of the list of N come before WORD, or `none` where WORD is not in the list
@@ -129,7 +130,7 @@ impl Standing {
     }
 }
 
-/// The place of a word. For each point, over all chains that lead down from it: how the letters before it stand to the word sought.
+/// The position of a word. For each point, over all chains that lead down from it: how the letters before it stand to the word sought.
 fn position(points: &[Point], word: &[u8]) -> Option<u64> {
     let cut = |i: usize, j: usize| &word[i.min(word.len())..j.min(word.len())];
     let one = Standing { earlier: 0, same: 1 };
