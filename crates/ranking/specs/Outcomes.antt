@@ -10,13 +10,12 @@ use native.Mathlib.Omega.{arith}
 use lib.Dec.{T, ltb}
 use lib.Ieee.Bits.{is-true}
 use borrow.Author.Tests.{lt-ltb, lt-leb, le-leb, ltb-true}
-use Rattle.chains.specs.Chains.{Part, ChainOf}
+use Rattle.chains.specs.Chains.{Part, total, ChainOf}
 use Rattle.chains.specs.Words.{Word, wordOf, chainOf, reads}
 use Rattle.chains.specs.Listing.{listOf, count, countBefore, position, chainAt}
-use Rattle.chains.specs.Members.{member-words}
-use Rattle.chains.specs.Weight.{weight, total-chainOf}
+use Rattle.chains.specs.Members.{list-holds}
+use Rattle.chains.specs.Readers.{readers-good}
 use Rattle.chains.specs.RoundTrip.{chain-word-chain, word-chained, word-chain-word, word-reads}
-use Rattle.chains.specs.Bounds.{weight-wordOf}
 use Rattle.chains.specs.PositionsOfChains.{chainAt-chain, position-at, at-position}
 use Rattle.parts.specs.Parts.{partNumber}
 use Rattle.words.specs.Records.{recordParts, judgedOf}
@@ -74,26 +73,25 @@ at-gives n i m c e = go (decLt i (count n))
 pub of-chain : (n : ℕ) (c : List Part) → ChainOf n c → n < 2 ^ 64 → ofWord (wordOf c) ≡ gives n c
 unfolding ofWord
 of-chain n c h f =
-    let e = weight-wordOf c (h .chained) ∙ h .sums in
-    rw (is-true (reads true (wordOf c)) (word-reads c), e, lt-ltb n (2 ^ 64) f, chain-word-chain c (h .chained))
+    rw (is-true (reads true (wordOf c)) (word-reads c), chain-word-chain c (h .chained), h .sums, lt-ltb n (2 ^ 64) f)
 
 -- A word stands for a chain.
-pub word-chain : (w : Word) → ChainOf (weight w) (chainOf w)
-word-chain w = record { chained = word-chained w; sums = total-chainOf w }
+pub word-chain : (w : Word) → ChainOf (total (chainOf w)) (chainOf w)
+word-chain w = record { chained = word-chained w; sums = refl }
 
 -- What reading a word gives is the chain of that word.
 pub of-gives : (w : Word) (n : ℕ) (c : List Part) → ofWord w ≡ gives n c → ChainOf n c × (wordOf c ≡ w) × (n < 2 ^ 64)
 unfolding ofWord
-of-gives w n c e = go (reads true w) refl (ltb (weight w) (2 ^ 64)) refl
+of-gives w n c e = go (reads true w) refl (ltb (total (chainOf w)) (2 ^ 64)) refl
   where
-    go : (g : Bool) → reads true w ≡ g → (f : Bool) → ltb (weight w) (2 ^ 64) ≡ f → ChainOf n c × (wordOf c ≡ w) × (n < 2 ^ 64)
+    go : (g : Bool) → reads true w ≡ g → (f : Bool) → ltb (total (chainOf w)) (2 ^ 64) ≡ f → ChainOf n c × (wordOf c ≡ w) × (n < 2 ^ 64)
     go true good true fits =
         let k = rw (good, fits) at e in
         let same : chainOf w ≡ c = cc k in
-        let number : weight w ≡ n = cc k in (
-          rw (same, number) at (word-chain w),
+        let number : total (chainOf w) ≡ n = cc k in (
+          rw (number, same) at (word-chain w),
           rw same at (word-chain-word w (rw good tt)),
-          omega (arith, ltb-true (weight w) (2 ^ 64) fits),
+          omega (arith, ltb-true (total (chainOf w)) (2 ^ 64) fits),
         )
     go true good false fits =
         let k = rw (good, fits) at e in
@@ -107,14 +105,14 @@ of-gives w n c e = go (reads true w) refl (ltb (weight w) (2 ^ 64)) refl
 -- A good word by what it weighs.
 pub of-weighed : (w : Word) (n : ℕ) → T (reads true w) → weighedOf w ≡ Number n
     → (ofWord w ≡ gives n (chainOf w)) × List·Memᴰ w (listOf n)
-unfolding weighedOf sized ofWord listOf
-of-weighed w n h e = go (ltb (weight w) (2 ^ 64)) refl
+unfolding weighedOf sized ofWord
+of-weighed w n h e = go (ltb (total (chainOf w)) (2 ^ 64)) refl
   where
-    go : (f : Bool) → ltb (weight w) (2 ^ 64) ≡ f → (ofWord w ≡ gives n (chainOf w)) × List·Memᴰ w (listOf n)
+    go : (f : Bool) → ltb (total (chainOf w)) (2 ^ 64) ≡ f → (ofWord w ≡ gives n (chainOf w)) × List·Memᴰ w (listOf n)
     go true fits =
         let k = rw fits at e in
-        let number : weight w ≡ n = cc k in
-        (rw (is-true (reads true w) h, fits, number), member-words true n w .1 (h, number))
+        let number : total (chainOf w) ≡ n = cc k in
+        (rw (is-true (reads true w) h, fits, number), list-holds n w .1 (readers-good w .0 h, number))
     go false fits =
         let k = rw fits at e in
         let z : _≡_ {A = ℕ} 0 1 = cc k in
@@ -122,9 +120,9 @@ of-weighed w n h e = go (ltb (weight w) (2 ^ 64)) refl
 
 pub of-over : (w : Word) → T (reads true w) → weighedOf w ≡ Over → ofWord w ≡ refused 10
 unfolding weighedOf sized ofWord
-of-over w h e = go (ltb (weight w) (2 ^ 64)) refl
+of-over w h e = go (ltb (total (chainOf w)) (2 ^ 64)) refl
   where
-    go : (f : Bool) → ltb (weight w) (2 ^ 64) ≡ f → ofWord w ≡ refused 10
+    go : (f : Bool) → ltb (total (chainOf w)) (2 ^ 64) ≡ f → ofWord w ≡ refused 10
     go true fits =
         let k = rw fits at e in
         let z : _≡_ {A = ℕ} 0 1 = cc k in

@@ -5,8 +5,8 @@ use mathlib.Core.List.{List, map}
 use Prim.Native.Nat.{ℕ, _^_}
 use lib.Dec.{ltb}
 use lib.ListN.{length}
+use Rattle.chains.specs.Chains.{total}
 use Rattle.chains.specs.Words.{Word, wordOf, chainOf, reads}
-use Rattle.chains.specs.Weight.{weight}
 use Rattle.parts.specs.Parts.{partNumber}
 use Rattle.lent.specs.Lent.{filled}
 use Rattle.words.specs.Records.{recordParts, judgedOf}
@@ -35,14 +35,17 @@ lettersLeft l entry (written.Refused r) = entry
 
 -- ---- from a word to its parts
 
--- The answer: 1 where fewer than 64 places are lent, 7 for a word that is not good, 10 where it stands for 2^64 or more (or one
--- part alone does: then the sum does too); else the number and how many parts.
+-- The answer: 1 where fewer than 64 places are lent, 7 for a word that is not good, 10 where its parts sum to 2^64 or more (so too
+-- where one part alone is that large); else the sum and how many parts.
 unfoldable pub partedOf : Word → ℕ → Parted
 partedOf w places =
     elim (ltb places 64) [
       | true ↦ parted.Refused 1
       | false ↦ elim (reads true w) [
-        | true ↦ elim (ltb (weight w) (2 ^ 64)) [ true ↦ parted.Chain (weight w) (length (chainOf w)) | false ↦ parted.Refused 10 ]
+        | true ↦ elim (ltb (total (chainOf w)) (2 ^ 64)) [
+          | true ↦ parted.Chain (total (chainOf w)) (length (chainOf w))
+          | false ↦ parted.Refused 10
+        ]
         | false ↦ parted.Refused 7
       ]
     ]
