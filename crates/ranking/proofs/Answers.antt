@@ -2,14 +2,14 @@
 -- the scratch with a table; a record by its word; a word by its parts; too little lent to a service with places, and enough; the
 -- chain at a position; the next chain of a word.
 use mathlib.Core.Path.{_≡_, refl, sym, ap, _∙_}
-use mathlib.Core.Bool.{Bool, true, false, or-true}
+use mathlib.Core.Bool.{Bool, true, false}
 use mathlib.Core.List.{List, [], List·Memᴰ}
 use Prim.Native.Nat.{ℕ, _+_, _-_, _^_, _≤_, _<_}
 use native.Mathlib.Nat.{sub-zero}
 use native.Mathlib.Omega.{arith}
 use lib.Dec.{T, ltb}
 use lib.ListN.{length, take}
-use borrow.Author.Tests.{lt-ltb, le-ltb}
+use borrow.Author.Tests.{le-ltb}
 use Rattle.counting.specs.TableLaws.{asked-still-room}
 use Rattle.lent.specs.LentLaws.{filled-first, scratch-little, scratch-enough, enough}
 use Rattle.chains.specs.Words.{Word, wordOf, chainOf, reads}

@@ -137,11 +137,11 @@ position-word w n h = rw (word-chain-word w h)
 -- ---- next
 
 -- After c comes the chain at the next position; 11 where there is none.
-after-below : (n : ℕ) (c : List Part) → position n c + 1 < count n → after n c ≡ atPosition n (position n c + 1)
+pub after-below : (n : ℕ) (c : List Part) → position n c + 1 < count n → after n c ≡ atPosition n (position n c + 1)
 unfolding after
 after-below n c l = standing-below 11 n (position n c + 1) l ∙ sym (at-below n (position n c + 1) l)
 
-after-last : (n : ℕ) (c : List Part) → count n ≤ position n c + 1 → after n c ≡ refused 11
+pub after-last : (n : ℕ) (c : List Part) → count n ≤ position n c + 1 → after n c ≡ refused 11
 unfolding after
 after-last n c l = standing-past 11 n (position n c + 1) l
 
@@ -187,7 +187,8 @@ unfolding ofRecord judgedAs
 record-chain n c h f = rw (chain-judged n c h f) (ap (gives n) (parts-of-numbers c (omega (arith, h .sums))))
 
 -- What reading a record gives is the chain of those part numbers.
-pub record-gives : (l : List ℕ) (n : ℕ) (c : List Part) → ofRecord l ≡ gives n c → ChainOf n c × (map partNumber c ≡ l) × (n < 2 ^ 64)
+pub record-gives : (l : List ℕ) (n : ℕ) (c : List Part) → ofRecord l ≡ gives n c
+    → ChainOf n c × (map partNumber c ≡ l) × (n < 2 ^ 64)
 unfolding ofRecord judgedAs
 record-gives l n c e = go (judgedOf l) refl
   where

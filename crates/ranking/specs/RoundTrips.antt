@@ -9,9 +9,7 @@ use mathlib.Core.List.{List, map}
 use Prim.Native.Nat.{ℕ, _+_, _^_, _≤_, _<_}
 use native.Mathlib.Decide.{decLt}
 use native.Mathlib.Omega.{arith}
-use lib.Dec.{ltb}
 use lib.ListN.{length, take, length-map}
-use borrow.Author.Tests.{le-ltb}
 use Rattle.lent.specs.LentLaws.{filled-first, scratch-enough, enough}
 use Rattle.chains.specs.Chains.{Part, ChainOf}
 use Rattle.chains.specs.Words.{Word, wordOf}
@@ -39,7 +37,7 @@ lent-enough scratch places o e = rw e
 pub lent-all : (scratch places : List ℕ) (o : Outcome) → Enough 64 scratch places → lent scratch places o ≡ o
 lent-all scratch places o h = lent-enough scratch places o (enough 64 scratch places h)
 
-lent-scratch : (scratch : List ℕ) (o : Outcome) → scratchSize ≤ length scratch → lentScratch scratch o ≡ o
+pub lent-scratch : (scratch : List ℕ) (o : Outcome) → scratchSize ≤ length scratch → lentScratch scratch o ≡ o
 unfolding lentScratch
 lent-scratch scratch o h = rw (scratch-enough scratch h)
 

@@ -1,7 +1,7 @@
 -- Records, chains and words lead to each other, for 003's chains and for the services' own answers.
 -- In order: a record written as a word, and a good word taken apart; a chain of n below 2^64, its record and its word. The answers
 -- are defined in Records and Conversions.
-use mathlib.Core.Path.{_≡_, refl, ap, ap₂, _∙_}
+use mathlib.Core.Path.{_≡_, refl, ap, ap₂}
 use mathlib.Core.Bool.{true, false}
 use mathlib.Core.List.{List, [], _∷_, map}
 use Prim.Native.Nat.{ℕ, _^_, _≤_, _<_}
