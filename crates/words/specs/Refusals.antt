@@ -70,7 +70,8 @@ module _
     pub word-tested : WordRefusals w (λ r. cond good ofGood (refusal 7) ≡ refusal r)
     word-tested =
         record {
-          refusal-7 = Iff·trans (is-second good ofGood (refusal 7) (λ e. omega (arith, good-only-10 7 e))) (Iff·not (readers-good w));
+          refusal-7 =
+              Iff·trans (is-second good ofGood (refusal 7) (λ e. omega (arith, good-only-10 7 e))) (Iff·not (readers-good w));
           refusal-10 =
               Iff·trans (in-first good ofGood (refusal 7) (refusal 10) (λ e. omega (arith, same 7 10 e)))
               (Iff·and (readers-good w)
