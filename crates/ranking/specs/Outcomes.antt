@@ -1,15 +1,16 @@
 -- The outcomes of the services, for chains and words of document 01 and 003.
--- In order: what each service gives for a chain of n; that whatever it gives is a chain of n, with its position; which refusal it
--- gives when. Round trips between the services are in RoundTrips.
+-- For each service in turn: what it gives for a chain of n; that it gives nothing but a chain of n, with its position. Which refusal a
+-- word or a record gets is in Refusals, round trips between the services are in RoundTrips.
 use mathlib.Core.Path.{_≡_, refl, sym, ap, _∙_}
-use mathlib.Core.Bool.{Bool, true, false}
+use mathlib.Core.Logic.{_↔_, Iff·and, Iff·rfl, Iff·trans}
+use mathlib.Core.Bool.{Bool, true, false, cond}
 use mathlib.Core.List.{List, map, List·Memᴰ}
 use Prim.Native.Nat.{ℕ, _+_, _^_, _≤_, _<_}
 use native.Mathlib.Decide.{decLt}
 use native.Mathlib.Omega.{arith}
-use lib.Dec.{T, ltb}
+use lib.Dec.{T, ltb, leb, ltb→lt, leb→le, le→leb}
 use lib.Ieee.Bits.{is-true}
-use borrow.Author.Tests.{lt-ltb, lt-leb, le-leb, ltb-true}
+use borrow.Author.Tests.{lt-ltb, lt-leb, le-leb}
 use Rattle.chains.specs.Chains.{Part, total, ChainOf}
 use Rattle.chains.specs.Words.{Word, wordOf, chainOf, reads}
 use Rattle.chains.specs.Listing.{listOf, count, countBefore, position, chainAt}
@@ -18,6 +19,7 @@ use Rattle.chains.specs.Readers.{readers-good}
 use Rattle.chains.specs.RoundTrip.{chain-word-chain, word-chained, word-chain-word, word-reads}
 use Rattle.chains.specs.PositionsOfChains.{chainAt-chain, position-at, at-position}
 use Rattle.parts.specs.Parts.{partNumber}
+use Rattle.words.specs.TestLaws.{in-first}
 use Rattle.words.specs.Records.{recordParts, judgedOf}
 use Rattle.words.specs.RecordLaws.{in-table, judged-sum}
 use Rattle.words.specs.WordLaws.{parts-of-numbers, numbers-of-parts, chain-judged}
@@ -28,6 +30,14 @@ use Rattle.words.specs.declared.Judged.the-variants as judged
 use Rattle.ranking.specs.Services.{Outcome, refused, gives, standing, atPosition, ofWord, after, nextOf, judgedAs}
 use Rattle.ranking.specs.Services.{ofRecord}
 
+-- ---- refusals
+
+pub same-refusal : (r s : ℕ) → refused r ≡ refused s → r ≡ s
+same-refusal r s e = cc
+
+pub no-refusal : (n : ℕ) (c : List Part) (r : ℕ) → ¬ (gives n c ≡ refused r)
+no-refusal n c r e = let z : _≡_ {A = ℕ} 0 1 = cc in omega arith
+
 -- ---- at a position
 
 pub standing-below : (r n i : ℕ) → i < count n → standing r n i ≡ gives n (chainAt n i)
@@ -37,6 +47,18 @@ standing-below r n i h = rw (lt-leb (count n) i h)
 pub standing-past : (r n i : ℕ) → count n ≤ i → standing r n i ≡ refused r
 unfolding standing
 standing-past r n i h = rw (le-leb (count n) i h)
+
+-- The refusal is r, and exactly past the count.
+pub standing-refused : (r n i s : ℕ) → (standing r n i ≡ refused s) ↔ ((s ≡ r) × (count n ≤ i))
+unfolding standing
+standing-refused r n i s =
+    Iff·trans (in-first (leb (count n) i) (refused r) (gives n (chainAt n i)) (refused s) (no-refusal n (chainAt n i) s)) (there, back)
+  where
+    there : T (leb (count n) i) × (refused r ≡ refused s) → (s ≡ r) × (count n ≤ i)
+    there (past, e) = (sym (same-refusal r s e), leb→le (count n) i past)
+
+    back : (s ≡ r) × (count n ≤ i) → T (leb (count n) i) × (refused r ≡ refused s)
+    back (e, past) = (le→leb (count n) i past, ap refused (sym e))
 
 pub at-below : (n i : ℕ) → i < count n → atPosition n i ≡ gives n (chainAt n i)
 unfolding atPosition
@@ -82,25 +104,18 @@ word-chain w = record { chained = word-chained w; sums = refl }
 -- What reading a word gives is the chain of that word.
 pub of-gives : (w : Word) (n : ℕ) (c : List Part) → ofWord w ≡ gives n c → ChainOf n c × (wordOf c ≡ w) × (n < 2 ^ 64)
 unfolding ofWord
-of-gives w n c e = go (reads true w) refl (ltb (total (chainOf w)) (2 ^ 64)) refl
-  where
-    go : (g : Bool) → reads true w ≡ g → (f : Bool) → ltb (total (chainOf w)) (2 ^ 64) ≡ f → ChainOf n c × (wordOf c ≡ w) × (n < 2 ^ 64)
-    go true good true fits =
-        let k = rw (good, fits) at e in
-        let same : chainOf w ≡ c = cc k in
-        let number : total (chainOf w) ≡ n = cc k in (
-          rw (number, same) at (word-chain w),
-          rw same at (word-chain-word w (rw good tt)),
-          omega (arith, ltb-true (total (chainOf w)) (2 ^ 64) fits),
-        )
-    go true good false fits =
-        let k = rw (good, fits) at e in
-        let z : _≡_ {A = ℕ} 0 1 = cc k in
-        absurd (omega arith)
-    go false good f fits =
-        let k = rw good at e in
-        let z : _≡_ {A = ℕ} 0 1 = cc k in
-        absurd (omega arith)
+of-gives w n c e =
+    let t = total (chainOf w) in
+    let (good, f) =
+    in-first (reads true w) (cond (ltb t (2 ^ 64)) (gives t (chainOf w)) (refused 10)) (refused 7) (gives n c)
+    (λ g. no-refusal n c 7 (sym g)) .0 e in
+    let (fits, g) = in-first (ltb t (2 ^ 64)) (gives t (chainOf w)) (refused 10) (gives n c) (λ g. no-refusal n c 10 (sym g)) .0 f in
+    let same : chainOf w ≡ c = cc g in
+    let number : total (chainOf w) ≡ n = cc g in (
+      rw (number, same) at (word-chain w),
+      rw same at (word-chain-word w good),
+      omega (arith, ltb→lt (total (chainOf w)) (2 ^ 64) fits),
+    )
 
 -- A good word by what it weighs.
 pub of-weighed : (w : Word) (n : ℕ) → T (reads true w) → weighedOf w ≡ Number n
@@ -137,13 +152,21 @@ position-word w n h = rw (word-chain-word w h)
 -- ---- next
 
 -- After c comes the chain at the next position; 11 where there is none.
-pub after-below : (n : ℕ) (c : List Part) → position n c + 1 < count n → after n c ≡ atPosition n (position n c + 1)
+after-below : (n : ℕ) (c : List Part) → position n c + 1 < count n → after n c ≡ atPosition n (position n c + 1)
 unfolding after
 after-below n c l = standing-below 11 n (position n c + 1) l ∙ sym (at-below n (position n c + 1) l)
 
 pub after-last : (n : ℕ) (c : List Part) → count n ≤ position n c + 1 → after n c ≡ refused 11
 unfolding after
 after-last n c l = standing-past 11 n (position n c + 1) l
+
+-- The refusal is 11, and exactly after the last chain.
+pub after-refused : (n : ℕ) (c : List Part) → ChainOf n c → (r : ℕ)
+    → (after n c ≡ refused r) ↔ ((r ≡ 11) × (position n c + 1 ≡ count n))
+unfolding after
+after-refused n c h r =
+    Iff·trans (standing-refused 11 n (position n c + 1) r)
+    (Iff·and Iff·rfl (λ l. omega (arith, at-position n c h .0), λ e. omega arith))
 
 -- The same of the word of a chain c of n.
 pub next-below : (n : ℕ) (c : List Part) → ChainOf n c → n < 2 ^ 64 → position n c + 1 < count n

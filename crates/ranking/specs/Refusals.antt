@@ -1,6 +1,6 @@
 -- Which refusal each service gives, in the terms of document 01's table: each number exactly if what the table says holds, and no
 -- other number. Refusal 1 comes first, for too little lent: here enough is lent.
--- In order: an answer is a refusal exactly if the outcome is; reading a word; the next chain; reading a record. The tables of
+-- In order: reading a word; the next chain; reading a record. The tables of
 -- refusals, `WordRefusals` and `RecordRefusals`, are in words. That position i is refused with 6 exactly past the count is in
 -- RoundTrips.
 use mathlib.Core.Path.{_≡_, refl, sym, ap, _∙_}
@@ -8,63 +8,27 @@ use mathlib.Core.Logic.{_↔_, _⊎_, inl, inr, ⊎-elim, Iff·trans}
 use mathlib.Core.Bool.{true}
 use mathlib.Core.List.{List}
 use Prim.Native.Nat.{ℕ, _+_, _^_, _≤_, _<_}
-use native.Mathlib.Decide.{decLt}
 use native.Mathlib.Omega.{arith}
 use lib.Ieee.Bits.{is-true}
 use lib.ListN.{length}
 use borrow.Author.Tests.{lt-ltb}
-use Rattle.chains.specs.Chains.{Part, total, ChainOf}
+use Rattle.chains.specs.Chains.{total}
 use Rattle.chains.specs.Words.{Word, Good, chainOf, reads}
 use Rattle.chains.specs.Listing.{count, position}
 use Rattle.chains.specs.Readers.{readers-good}
 use Rattle.chains.specs.RoundTrip.{chain-word-chain, word-reads}
-use Rattle.chains.specs.PositionsOfChains.{at-position}
 use Rattle.lent.specs.Lent.{scratchSize, Enough}
-use Rattle.words.specs.Records.{recordParts, judgedOf}
-use Rattle.words.specs.RecordLaws.{Burned, judged-sum}
+use Rattle.words.specs.Records.{recordParts, Burned, judgedOf}
+use Rattle.words.specs.RecordLaws.{judged-sum}
 use Rattle.words.specs.Refusals.{WordRefusals, word-lifted, word-tested, RecordRefusals, record-lifted, judged-refusals}
 use Rattle.words.specs.declared.Judged.{Judged}
 use Rattle.words.specs.declared.Judged.the-variants as judged
-use Rattle.ranking.specs.Services.{Outcome, refused, gives, lent, lentScratch, answerOf, placedOf, ofWord, after, nextOf}
+use Rattle.ranking.specs.Services.{Outcome, refused, gives, lent, lentScratch, answerOf, placedOf, ofWord, nextOf}
 use Rattle.ranking.specs.Services.{judgedAs, ofRecord}
-use Rattle.ranking.specs.Outcomes.{at-below, of-gives, after-below, after-last}
-use Rattle.ranking.specs.RoundTrips.{lent-all, lent-scratch}
+use Rattle.ranking.specs.Outcomes.{same-refusal, no-refusal, of-gives, after-refused, after-last}
+use Rattle.ranking.specs.RoundTrips.{found-refused, placed-refused}
 use Rattle.ranking.specs.declared.Placed.the-variants as placed
 use Rattle.ranking.specs.declared.Found.the-variants as found
-
--- ---- an answer is a refusal exactly if the outcome is
-
-same-refusal : (r s : ℕ) → refused r ≡ refused s → r ≡ s
-same-refusal r s e = cc
-
-no-refusal : (n : ℕ) (c : List Part) (r : ℕ) → ¬ (gives n c ≡ refused r)
-no-refusal n c r e = let z : _≡_ {A = ℕ} 0 1 = cc in omega arith
-
--- A service that is lent enough, scratch and places.
-pub found-refused : (s p : List ℕ) → Enough 64 s p → (o : Outcome) (r : ℕ)
-    → (answerOf (lent s p o) ≡ found.Refused r) ↔ (o ≡ refused r)
-unfolding answerOf
-found-refused s p h o r = rw (lent-all s p o h) (by-outcome o)
-  where
-    by-outcome : (o : Outcome) → (answerOf o ≡ found.Refused r) ↔ (o ≡ refused r)
-    by-outcome (refused q) = (λ e. cc, λ e. cc)
-    by-outcome (gives n c) = (
-      λ e. let z : _≡_ {A = ℕ} 0 1 = cc in absurd (omega arith),
-      λ e. absurd (no-refusal n c r e),
-    )
-
--- One that is lent a scratch alone.
-pub placed-refused : (s : List ℕ) → scratchSize ≤ length s → (o : Outcome) (r : ℕ)
-    → (placedOf (lentScratch s o) ≡ placed.Refused r) ↔ (o ≡ refused r)
-unfolding placedOf
-placed-refused s h o r = rw (lent-scratch s o h) (by-outcome o)
-  where
-    by-outcome : (o : Outcome) → (placedOf o ≡ placed.Refused r) ↔ (o ≡ refused r)
-    by-outcome (refused q) = (λ e. cc, λ e. cc)
-    by-outcome (gives n c) = (
-      λ e. let z : _≡_ {A = ℕ} 0 1 = cc in absurd (omega arith),
-      λ e. absurd (no-refusal n c r e),
-    )
 
 -- ---- reading a word
 
@@ -102,22 +66,6 @@ pub record NextRefusals (w : Word) (refused : ℕ → Type 0) : Type 0 where
       ↔ (Good w × (total (chainOf w) < 2 ^ 64)
       × (position (total (chainOf w)) (chainOf w) + 1 ≡ count (total (chainOf w))))
   pub no-other : (r : ℕ) → refused r → (r ≡ 7) ⊎ ((r ≡ 10) ⊎ (r ≡ 11))
-
--- What comes after a chain is refused with 11 alone, and exactly if the chain is the last.
-after-refused : (n : ℕ) (c : List Part) → ChainOf n c → (r : ℕ)
-    → (after n c ≡ refused r) ↔ ((r ≡ 11) × (position n c + 1 ≡ count n))
-after-refused n c h r = by-position (decLt (position n c + 1) (count n))
-  where
-    by-position : Dec (position n c + 1 < count n) → (after n c ≡ refused r) ↔ ((r ≡ 11) × (position n c + 1 ≡ count n))
-    by-position (yes l) = (
-      λ e. absurd (no-refusal _ _ r (sym (at-below n (position n c + 1) l) ∙ sym (after-below n c l) ∙ e)),
-      λ g. absurd (omega (arith, g .1)),
-    )
-    by-position (no l) =
-        let last = after-last n c (omega arith) in (
-          λ e. (sym (same-refusal 11 r (sym last ∙ e)), omega (arith, at-position n c h .0)),
-          λ g. last ∙ ap refused (sym (g .0)),
-        )
 
 module _ (w : Word) where
   -- The word can be read, and its chain is the last in its list.

@@ -1,4 +1,4 @@
--- The services that find a chain or its place in the list of n: document 01, 'Services and memory' and the table of refusals.
+-- The services that find a chain or its position in the list of n: document 01, 'Services and memory' and the table of refusals.
 --
 -- Each service has an outcome: a refusal by its number, or a chain of n. What it answers, and what it leaves in the places and in
 -- the scratch (`scratchLeft` in lent), follow from the outcome alone, by one rule for all services.

@@ -46,7 +46,7 @@ parts-of-numbers (p ∷ c) h =
     let (first, rest) = both-below p c h in
     ap₂ (λ q d. q ∷ d) (part-of-number p first) (parts-of-numbers c rest)
 
--- The numbers of a record are the places of their parts.
+-- The numbers of a record are those of its parts.
 pub numbers-of-parts : (l : List ℕ) → beyond l ≡ false → map partNumber (recordParts l) ≡ l
 unfolding recordParts
 numbers-of-parts [] e = refl

@@ -39,7 +39,7 @@ fn number_at(a: u64, b: u64) -> u16
 
 // The numbers of the word's k parts in the first k places, the largest part first: the walk meets the smallest one first, which
 // has the last place. The number of each point is stored where the next part's belongs: if the point is no part, a later store
-// takes its place, since the last point is a part.
+// overwrites it, since the last point is a part.
 fn store_numbers(letters: &[u8], places: &mut [u16], k: usize)
     requires { ⌜ (reads true (now letters) ≡ true) × (total (chainOf (now letters)) < 2 ^ 64)
         × (k ≡ length (chainOf (now letters))) × (k ≤ length (now places)) ⌝ }
