@@ -1,6 +1,6 @@
 -- The outcomes of the services, for chains and words of document 01 and 003.
--- For each service in turn: what it gives for a chain of n; that it gives nothing but a chain of n, with its position. Which refusal a
--- word or a record gets is in Refusals, round trips between the services are in RoundTrips.
+-- For each service in turn: what it gives for a chain of n; that it gives nothing but a chain of n, with its position. Which refusal
+-- a word or a record gets is in Refusals, round trips between the services are in RoundTrips.
 use mathlib.Core.Path.{_≡_, refl, sym, ap, _∙_}
 use mathlib.Core.Logic.{_↔_, Iff·and, Iff·rfl, Iff·trans}
 use mathlib.Core.Bool.{Bool, true, false, cond}
@@ -52,7 +52,8 @@ standing-past r n i h = rw (le-leb (count n) i h)
 pub standing-refused : (r n i s : ℕ) → (standing r n i ≡ refused s) ↔ ((s ≡ r) × (count n ≤ i))
 unfolding standing
 standing-refused r n i s =
-    Iff·trans (in-first (leb (count n) i) (refused r) (gives n (chainAt n i)) (refused s) (no-refusal n (chainAt n i) s)) (there, back)
+    let c = chainAt n i in
+    Iff·trans (in-first (leb (count n) i) (refused r) (gives n c) (refused s) (no-refusal n c s)) (there, back)
   where
     there : T (leb (count n) i) × (refused r ≡ refused s) → (s ≡ r) × (count n ≤ i)
     there (past, e) = (sym (same-refusal r s e), leb→le (count n) i past)
@@ -109,7 +110,8 @@ of-gives w n c e =
     let (good, f) =
     in-first (reads true w) (cond (ltb t (2 ^ 64)) (gives t (chainOf w)) (refused 10)) (refused 7) (gives n c)
     (λ g. no-refusal n c 7 (sym g)) .0 e in
-    let (fits, g) = in-first (ltb t (2 ^ 64)) (gives t (chainOf w)) (refused 10) (gives n c) (λ g. no-refusal n c 10 (sym g)) .0 f in
+    let (fits, g) =
+    in-first (ltb t (2 ^ 64)) (gives t (chainOf w)) (refused 10) (gives n c) (λ g. no-refusal n c 10 (sym g)) .0 f in
     let same : chainOf w ≡ c = cc g in
     let number : total (chainOf w) ≡ n = cc g in (
       rw (number, same) at (word-chain w),

@@ -1,6 +1,6 @@
 -- A burned record: part numbers, largest part first (document 01, 'Frames' and the refusals 8, 9, 10).
--- In order: its parts; what a record must be in 003's terms; the tests, and what a record gets by them. Definitions only: that it gets
--- its sum exactly if it is what it must be is in RecordLaws, which refusal it gets when is in Refusals.
+-- In order: its parts; what a record must be in 003's terms; the tests, and what a record gets by them. Definitions only: that it
+-- gets its sum exactly if it is what it must be is in RecordLaws, which refusal it gets when is in Refusals.
 use mathlib.Core.Bool.{Bool, true, false, cond, _&&_, _||_, not}
 use mathlib.Core.List.{List, [], _∷_, map}
 use Prim.Native.Nat.{ℕ, _%_, _^_, _≤_, _<_}
