@@ -19,7 +19,7 @@ use Rattle.parts.specs.Table.{parts}
 use Rattle.parts.specs.Parts.{limit, sumAt}
 use Rattle.parts.specs.Numbers.{part-value}
 use Rattle.words.specs.Records.{recordParts, beyond, chainedTest, Burned, judgedOf}
-pub use Rattle.words.specs.Records.{InTable}
+unfoldable pub use Rattle.words.specs.Records.{InTable}
 use Rattle.words.specs.declared.Judged.the-variants.{Sum, Refused}
 
 -- ---- the chain condition
