@@ -1,8 +1,8 @@
 -- How large a chain, its word and the points of its walk can be: document 01, 'Parts and chains'. In order: the letters of a word
--- that a reader takes; the parts of a word and of a chain; the exponents of a part; the letters of a chain's word; the points of the walk. A bound on
--- letters or parts takes any power of two: with 2^64 a chain has at most 64 parts, and its word 64 letters.
+-- that a reader takes; the parts of a word and of a chain; the exponents of a part; the letters of a chain's word; the points of
+-- the walk. A bound on letters or parts takes any power of two: with 2^64 a chain has at most 64 parts, and its word 64 letters.
 use mathlib.Core.Path.{_≡_, refl, sym, ap, _∙_}
-use mathlib.Core.Logic.{⊎-elim}
+use mathlib.Core.Logic.{_↔_, ⊎-elim}
 use mathlib.Core.Bool.{Bool, true, false, _&&_}
 use mathlib.Core.List.{List, [], _∷_, _++_, List·Memᴰ, List·Memᴰ·head, List·Memᴰ·not-nil, List·Memᴰ·cases-cons}
 use Prim.Native.Nat.{ℕ, zero, suc, _+_, _-_, _*_, _^_, _≤_, _<_}
@@ -23,7 +23,7 @@ use lib.Pow.{pow-add, pow-mono, pow-pos}
 use Rattle.chains.specs.Chains.{Part, value, Chained, total, ChainOf}
 use Rattle.chains.specs.Words.{Word, origin, path, marked, walk, wordOf, right, up, chainFrom, chainOf, someLeft, reads}
 use Rattle.chains.specs.Listing.{one-if}
-use Rattle.chains.specs.Divides.{Above, multiple-above}
+use Rattle.chains.specs.Divides.{value-pos, Above, multiple-above}
 use Rattle.chains.specs.RoundTrip.{chain-word-chain, word-reads}
 use Rattle.chains.specs.Weight.{weight, total-chainOf}
 use Rattle.chains.specs.Rest.{pointAfter, weight-append}
@@ -89,6 +89,12 @@ part-total (q ∷ c) p m =
 -- So it is at most the number that the chain stands for.
 pub part-at-most : (n : ℕ) (c : List Part) (p : Part) → ChainOf n c → List·Memᴰ p c → value p ≤ n
 part-at-most n c p h m = omega (arith, part-total c p m)
+
+-- The number 0 has one chain, the empty one.
+pub chain-of-0 : (c : List Part) → ChainOf 0 c ↔ (c ≡ [])
+unfolding total
+chain-of-0 [] = (λ _. refl, λ _. record { chained = tt; sums = refl })
+chain-of-0 (p ∷ c) = (λ h. absurd (omega (arith, h .sums, value-pos p)), λ e. absurd (omega (arith, ap length e)))
 
 -- ---- exponents
 

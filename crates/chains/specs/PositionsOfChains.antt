@@ -1,8 +1,11 @@
--- The chain at a position of the list of n is a chain of n and has that position, and each chain of n stands at its position.
+-- The chain at a position of the list of n is a chain of n and has that position; each chain of n stands at its position, and
+-- nowhere else (`stands-once`); the last chain is the one that no chain comes after.
 -- From Positions, where the same is said of words, by the round trip between chains and words (RoundTrip).
-use mathlib.Core.Path.{_≡_, ap, _∙_}
+use mathlib.Core.Path.{_≡_, sym, ap, _∙_}
+use mathlib.Core.Logic.{_↔_}
 use mathlib.Core.List.{List, [], List·Memᴰ}
-use Prim.Native.Nat.{ℕ, _<_}
+use Prim.Native.Nat.{ℕ, _+_, _≤_, _<_}
+use native.Mathlib.Omega.{arith}
 use lib.ListN.{getD}
 use Rattle.chains.specs.Chains.{Part, ChainOf}
 use Rattle.chains.specs.Words.{wordOf, chainOf}
@@ -41,3 +44,23 @@ unfolding position chainAt
 at-position n c h =
     let p = word-at-position n (wordOf c) (chain-listed n c h) in
     (p .0, ap chainOf (p .1) ∙ chain-word-chain c (h .chained))
+
+-- Each chain of n stands in the list of n exactly once.
+pub stands-once : (n : ℕ) (c : List Part) → ChainOf n c
+    → (i : ℕ) × (i < count n) × (chainAt n i ≡ c) × ((j : ℕ) → j < count n → chainAt n j ≡ c → j ≡ i)
+stands-once n c h =
+    let (low, there) = at-position n c h in
+    (position n c, low, there, λ j l e. sym (position-at n j l) ∙ ap (position n) e)
+
+-- A chain has the last position exactly if no chain of n comes after it.
+pub last-chain : (n : ℕ) (c : List Part) → ChainOf n c
+    → (position n c + 1 ≡ count n) ↔ ((d : List Part) → ChainOf n d → position n d ≤ position n c)
+last-chain n c h = (λ e d g. omega (arith, at-position n d g .0), none-after)
+  where
+    i : ℕ
+    i = position n c + 1
+
+    none-after : ((d : List Part) → ChainOf n d → position n d ≤ position n c) → position n c + 1 ≡ count n
+    none-after all =
+        let last : ¬ (i < count n) = λ l. omega (arith, all (chainAt n i) (chainAt-chain n i l), position-at n i l) in
+        omega (arith, at-position n c h .0)

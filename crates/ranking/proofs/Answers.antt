@@ -2,24 +2,23 @@
 -- the scratch with a table; a record by its word; a word by its parts; too little lent to a service with places, and enough; the
 -- chain at a position; the next chain of a word.
 use mathlib.Core.Path.{_≡_, refl, sym, ap, _∙_}
-use mathlib.Core.Bool.{Bool, true, false, or-true}
+use mathlib.Core.Bool.{Bool, true, false}
 use mathlib.Core.List.{List, [], List·Memᴰ}
 use Prim.Native.Nat.{ℕ, _+_, _-_, _^_, _≤_, _<_}
 use native.Mathlib.Nat.{sub-zero}
 use native.Mathlib.Omega.{arith}
 use lib.Dec.{T, ltb}
 use lib.ListN.{length, take}
-use borrow.Author.Tests.{lt-ltb, le-ltb}
+use borrow.Author.Tests.{le-ltb}
 use Rattle.counting.specs.TableLaws.{TableAsked, asked-still-room}
 use Rattle.lent.specs.LentLaws.{filled-first, scratch-little, scratch-enough, enough}
-use Rattle.chains.specs.Words.{Word, wordOf, reads}
+use Rattle.chains.specs.Words.{Word, wordOf, chainOf, reads}
 use Rattle.chains.specs.Listing.{listOf, count, countBefore, position, chainAt}
-use Rattle.chains.specs.Weight.{weight}
 use Rattle.chains.specs.Listed.{chain-listed}
 use Rattle.chains.specs.PositionsOfChains.{chainAt-chain, word-chainAt, position-at}
 use Rattle.chains.specs.RoundTrip.{word-reads}
 use Rattle.chains.specs.Bounds.{word-bound}
-use Rattle.chains.specs.Chains.{Part}
+use Rattle.chains.specs.Chains.{Part, total}
 use Rattle.lent.specs.Lent.{filled, scratchSize, littleScratch, tooLittle, scratchLeft}
 use Rattle.words.specs.Answers.{weighedOf}
 use Rattle.words.specs.declared.Weighed.the-variants.{Number, Over}
@@ -126,18 +125,18 @@ partedAs (gives n c) = parted.Chain n (length c)
 module _ (w : Word) (entry : List ℕ) (h : 64 ≤ length entry) where
   pub word-parted : partedOf w (length entry) ≡ partedAs (ofWord w)
   unfolding partedOf ofWord partedAs
-  word-parted = go (reads true w) refl (ltb (weight w) (2 ^ 64)) refl
+  word-parted = go (reads true w) refl (ltb (total (chainOf w)) (2 ^ 64)) refl
     where
-      go : (g : Bool) → reads true w ≡ g → (f : Bool) → ltb (weight w) (2 ^ 64) ≡ f → partedOf w (length entry) ≡ partedAs (ofWord w)
+      go : (g : Bool) → reads true w ≡ g → (f : Bool) → ltb (total (chainOf w)) (2 ^ 64) ≡ f → partedOf w (length entry) ≡ partedAs (ofWord w)
       go true good true fits = rw (le-ltb (length entry) 64 h, partedOf, good, fits)
       go true good false fits = rw (le-ltb (length entry) 64 h, partedOf, good, fits)
       go false good f fits = rw (le-ltb (length entry) 64 h, partedOf, good)
 
   pub word-left : numbersLeft w entry (partedOf w (length entry)) ≡ placesLeft (ofWord w) entry
   unfolding ofWord partedAs numbersLeft placesLeft
-  word-left = rw word-parted (go (reads true w) refl (ltb (weight w) (2 ^ 64)) refl)
+  word-left = rw word-parted (go (reads true w) refl (ltb (total (chainOf w)) (2 ^ 64)) refl)
     where
-      go : (g : Bool) → reads true w ≡ g → (f : Bool) → ltb (weight w) (2 ^ 64) ≡ f
+      go : (g : Bool) → reads true w ≡ g → (f : Bool) → ltb (total (chainOf w)) (2 ^ 64) ≡ f
           → numbersLeft w entry (partedAs (ofWord w)) ≡ placesLeft (ofWord w) entry
       go true good true fits = rw (good, fits)
       go true good false fits = rw (good, fits)

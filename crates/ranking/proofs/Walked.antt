@@ -20,8 +20,8 @@ use Rattle.chains.specs.Positions.{words-at-position, word-at-position, positio
 use Rattle.grid.specs.Rests.{restAt, rest-origin, rest-right, rest-up, point-bounds}
 use Rattle.grid.specs.Fill.{read-after-a}
 use Rattle.counting.specs.Table.{countCell}
-use Rattle.ranking.specs.Walks.{Tabled, RankWalked, wordAt, WordWalked, WordRisen, WordFound}
-use Rattle.ranking.specs.Points.{Between, between, drop-more, take-more, take-stored}
+use Rattle.ranking.specs.Walks.{Tabled, Between, RankWalked, wordAt, WordWalked, WordRisen, WordFound}
+use Rattle.ranking.specs.Points.{between, drop-more, take-more, take-stored}
 
 -- ---- the table
 

@@ -1,24 +1,25 @@
 -- The outcomes of the services, for chains and words of document 01 and 003.
--- In order: what each service gives for a chain of n; that whatever it gives is a chain of n, with its position; which refusal it
--- gives when. Round trips between the services are in RoundTrips.
+-- For each service in turn: what it gives for a chain of n; that it gives nothing but a chain of n, with its position. Which refusal
+-- a word or a record gets is in Refusals, round trips between the services are in RoundTrips.
 use mathlib.Core.Path.{_≡_, refl, sym, ap, _∙_}
-use mathlib.Core.Bool.{Bool, true, false}
+use mathlib.Core.Logic.{_↔_, Iff·and, Iff·rfl, Iff·trans}
+use mathlib.Core.Bool.{Bool, true, false, cond}
 use mathlib.Core.List.{List, map, List·Memᴰ}
 use Prim.Native.Nat.{ℕ, _+_, _^_, _≤_, _<_}
 use native.Mathlib.Decide.{decLt}
 use native.Mathlib.Omega.{arith}
-use lib.Dec.{T, ltb}
+use lib.Dec.{T, ltb, leb, ltb→lt, leb→le, le→leb}
 use lib.Ieee.Bits.{is-true}
-use borrow.Author.Tests.{lt-ltb, lt-leb, le-leb, ltb-true}
-use Rattle.chains.specs.Chains.{Part, ChainOf}
+use borrow.Author.Tests.{lt-ltb, lt-leb, le-leb}
+use Rattle.chains.specs.Chains.{Part, total, ChainOf}
 use Rattle.chains.specs.Words.{Word, wordOf, chainOf, reads}
 use Rattle.chains.specs.Listing.{listOf, count, countBefore, position, chainAt}
-use Rattle.chains.specs.Members.{member-words}
-use Rattle.chains.specs.Weight.{weight, total-chainOf}
+use Rattle.chains.specs.Members.{list-holds}
+use Rattle.chains.specs.Readers.{readers-good}
 use Rattle.chains.specs.RoundTrip.{chain-word-chain, word-chained, word-chain-word, word-reads}
-use Rattle.chains.specs.Bounds.{weight-wordOf}
 use Rattle.chains.specs.PositionsOfChains.{chainAt-chain, position-at, at-position}
 use Rattle.parts.specs.Parts.{partNumber}
+use Rattle.words.specs.TestLaws.{in-first}
 use Rattle.words.specs.Records.{recordParts, judgedOf}
 use Rattle.words.specs.RecordLaws.{in-table, judged-sum}
 use Rattle.words.specs.WordLaws.{parts-of-numbers, numbers-of-parts, chain-judged}
@@ -29,6 +30,14 @@ use Rattle.words.specs.declared.Judged.the-variants as judged
 use Rattle.ranking.specs.Services.{Outcome, refused, gives, standing, atPosition, ofWord, after, nextOf, judgedAs}
 use Rattle.ranking.specs.Services.{ofRecord}
 
+-- ---- refusals
+
+pub same-refusal : (r s : ℕ) → refused r ≡ refused s → r ≡ s
+same-refusal r s e = cc
+
+pub no-refusal : (n : ℕ) (c : List Part) (r : ℕ) → ¬ (gives n c ≡ refused r)
+no-refusal n c r e = let z : _≡_ {A = ℕ} 0 1 = cc in omega arith
+
 -- ---- at a position
 
 pub standing-below : (r n i : ℕ) → i < count n → standing r n i ≡ gives n (chainAt n i)
@@ -38,6 +47,19 @@ standing-below r n i h = rw (lt-leb (count n) i h)
 pub standing-past : (r n i : ℕ) → count n ≤ i → standing r n i ≡ refused r
 unfolding standing
 standing-past r n i h = rw (le-leb (count n) i h)
+
+-- The refusal is r, and exactly past the count.
+pub standing-refused : (r n i s : ℕ) → (standing r n i ≡ refused s) ↔ ((s ≡ r) × (count n ≤ i))
+unfolding standing
+standing-refused r n i s =
+    let c = chainAt n i in
+    Iff·trans (in-first (leb (count n) i) (refused r) (gives n c) (refused s) (no-refusal n c s)) (there, back)
+  where
+    there : T (leb (count n) i) × (refused r ≡ refused s) → (s ≡ r) × (count n ≤ i)
+    there (past, e) = (sym (same-refusal r s e), leb→le (count n) i past)
+
+    back : (s ≡ r) × (count n ≤ i) → T (leb (count n) i) × (refused r ≡ refused s)
+    back (e, past) = (le→leb (count n) i past, ap refused (sym e))
 
 pub at-below : (n i : ℕ) → i < count n → atPosition n i ≡ gives n (chainAt n i)
 unfolding atPosition
@@ -74,47 +96,40 @@ at-gives n i m c e = go (decLt i (count n))
 pub of-chain : (n : ℕ) (c : List Part) → ChainOf n c → n < 2 ^ 64 → ofWord (wordOf c) ≡ gives n c
 unfolding ofWord
 of-chain n c h f =
-    let e = weight-wordOf c (h .chained) ∙ h .sums in
-    rw (is-true (reads true (wordOf c)) (word-reads c), e, lt-ltb n (2 ^ 64) f, chain-word-chain c (h .chained))
+    rw (is-true (reads true (wordOf c)) (word-reads c), chain-word-chain c (h .chained), h .sums, lt-ltb n (2 ^ 64) f)
 
 -- A word stands for a chain.
-pub word-chain : (w : Word) → ChainOf (weight w) (chainOf w)
-word-chain w = record { chained = word-chained w; sums = total-chainOf w }
+pub word-chain : (w : Word) → ChainOf (total (chainOf w)) (chainOf w)
+word-chain w = record { chained = word-chained w; sums = refl }
 
 -- What reading a word gives is the chain of that word.
 pub of-gives : (w : Word) (n : ℕ) (c : List Part) → ofWord w ≡ gives n c → ChainOf n c × (wordOf c ≡ w) × (n < 2 ^ 64)
 unfolding ofWord
-of-gives w n c e = go (reads true w) refl (ltb (weight w) (2 ^ 64)) refl
-  where
-    go : (g : Bool) → reads true w ≡ g → (f : Bool) → ltb (weight w) (2 ^ 64) ≡ f → ChainOf n c × (wordOf c ≡ w) × (n < 2 ^ 64)
-    go true good true fits =
-        let k = rw (good, fits) at e in
-        let same : chainOf w ≡ c = cc k in
-        let number : weight w ≡ n = cc k in (
-          rw (same, number) at (word-chain w),
-          rw same at (word-chain-word w (rw good tt)),
-          omega (arith, ltb-true (weight w) (2 ^ 64) fits),
-        )
-    go true good false fits =
-        let k = rw (good, fits) at e in
-        let z : _≡_ {A = ℕ} 0 1 = cc k in
-        absurd (omega arith)
-    go false good f fits =
-        let k = rw good at e in
-        let z : _≡_ {A = ℕ} 0 1 = cc k in
-        absurd (omega arith)
+of-gives w n c e =
+    let t = total (chainOf w) in
+    let (good, f) =
+    in-first (reads true w) (cond (ltb t (2 ^ 64)) (gives t (chainOf w)) (refused 10)) (refused 7) (gives n c)
+    (λ g. no-refusal n c 7 (sym g)) .0 e in
+    let (fits, g) =
+    in-first (ltb t (2 ^ 64)) (gives t (chainOf w)) (refused 10) (gives n c) (λ g. no-refusal n c 10 (sym g)) .0 f in
+    let same : chainOf w ≡ c = cc g in
+    let number : total (chainOf w) ≡ n = cc g in (
+      rw (number, same) at (word-chain w),
+      rw same at (word-chain-word w good),
+      omega (arith, ltb→lt (total (chainOf w)) (2 ^ 64) fits),
+    )
 
 -- A good word by what it weighs.
 pub of-weighed : (w : Word) (n : ℕ) → T (reads true w) → weighedOf w ≡ Number n
     → (ofWord w ≡ gives n (chainOf w)) × List·Memᴰ w (listOf n)
-unfolding weighedOf sized ofWord listOf
-of-weighed w n h e = go (ltb (weight w) (2 ^ 64)) refl
+unfolding weighedOf sized ofWord
+of-weighed w n h e = go (ltb (total (chainOf w)) (2 ^ 64)) refl
   where
-    go : (f : Bool) → ltb (weight w) (2 ^ 64) ≡ f → (ofWord w ≡ gives n (chainOf w)) × List·Memᴰ w (listOf n)
+    go : (f : Bool) → ltb (total (chainOf w)) (2 ^ 64) ≡ f → (ofWord w ≡ gives n (chainOf w)) × List·Memᴰ w (listOf n)
     go true fits =
         let k = rw fits at e in
-        let number : weight w ≡ n = cc k in
-        (rw (is-true (reads true w) h, fits, number), member-words true n w .1 (h, number))
+        let number : total (chainOf w) ≡ n = cc k in
+        (rw (is-true (reads true w) h, fits, number), list-holds n w .1 (readers-good w .0 h, number))
     go false fits =
         let k = rw fits at e in
         let z : _≡_ {A = ℕ} 0 1 = cc k in
@@ -122,9 +137,9 @@ of-weighed w n h e = go (ltb (weight w) (2 ^ 64)) refl
 
 pub of-over : (w : Word) → T (reads true w) → weighedOf w ≡ Over → ofWord w ≡ refused 10
 unfolding weighedOf sized ofWord
-of-over w h e = go (ltb (weight w) (2 ^ 64)) refl
+of-over w h e = go (ltb (total (chainOf w)) (2 ^ 64)) refl
   where
-    go : (f : Bool) → ltb (weight w) (2 ^ 64) ≡ f → ofWord w ≡ refused 10
+    go : (f : Bool) → ltb (total (chainOf w)) (2 ^ 64) ≡ f → ofWord w ≡ refused 10
     go true fits =
         let k = rw fits at e in
         let z : _≡_ {A = ℕ} 0 1 = cc k in
@@ -143,9 +158,17 @@ after-below : (n : ℕ) (c : List Part) → position n c + 1 < count n → after
 unfolding after
 after-below n c l = standing-below 11 n (position n c + 1) l ∙ sym (at-below n (position n c + 1) l)
 
-after-last : (n : ℕ) (c : List Part) → count n ≤ position n c + 1 → after n c ≡ refused 11
+pub after-last : (n : ℕ) (c : List Part) → count n ≤ position n c + 1 → after n c ≡ refused 11
 unfolding after
 after-last n c l = standing-past 11 n (position n c + 1) l
+
+-- The refusal is 11, and exactly after the last chain.
+pub after-refused : (n : ℕ) (c : List Part) → ChainOf n c → (r : ℕ)
+    → (after n c ≡ refused r) ↔ ((r ≡ 11) × (position n c + 1 ≡ count n))
+unfolding after
+after-refused n c h r =
+    Iff·trans (standing-refused 11 n (position n c + 1) r)
+    (Iff·and Iff·rfl (λ l. omega (arith, at-position n c h .0), λ e. omega arith))
 
 -- The same of the word of a chain c of n.
 pub next-below : (n : ℕ) (c : List Part) → ChainOf n c → n < 2 ^ 64 → position n c + 1 < count n
@@ -189,7 +212,8 @@ unfolding ofRecord judgedAs
 record-chain n c h f = rw (chain-judged n c h f) (ap (gives n) (parts-of-numbers c (omega (arith, h .sums))))
 
 -- What reading a record gives is the chain of those part numbers.
-pub record-gives : (l : List ℕ) (n : ℕ) (c : List Part) → ofRecord l ≡ gives n c → ChainOf n c × (map partNumber c ≡ l) × (n < 2 ^ 64)
+pub record-gives : (l : List ℕ) (n : ℕ) (c : List Part) → ofRecord l ≡ gives n c
+    → ChainOf n c × (map partNumber c ≡ l) × (n < 2 ^ 64)
 unfolding ofRecord judgedAs
 record-gives l n c e = go (judgedOf l) refl
   where

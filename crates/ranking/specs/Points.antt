@@ -1,7 +1,7 @@
--- The points of a walk over a table: a walk goes along the letters of a word of n, from the point (0, 0) up, and the next letter's
--- index is a + b.
--- In order: a point between the first and the last; one letter more of a word. The rest at a point and what stands in the cells of
--- a table are in grid, the lists at a rest in chains.
+-- Laws of the points of a walk over a table: a walk goes along the letters of a word of n, from the point (0, 0) up, and the next
+-- letter's index is a + b.
+-- In order: a point where a letter stands that is not the last (`Between` in Walks); one letter more of a word. The rest at a point
+-- and what stands in the cells of a table are in grid, the lists at a rest in chains.
 use mathlib.Core.Path.{_≡_}
 use mathlib.Core.List.{[], _∷_, _++_}
 use Prim.Native.Nat.{ℕ, _+_, _^_, _≤_, _<_}
@@ -11,14 +11,9 @@ use lib.ListN.{length, set, take, drop}
 use lib.Seq.{drop-drop, take-add, take-suc-set}
 use Rattle.chains.specs.Words.{Word}
 use Rattle.grid.specs.Rests.{restAt, rest-right, point-bounds}
+use Rattle.ranking.specs.Walks.{Between}
 
 -- ---- a point with a letter after it
-
--- A point where a letter stands that is not the last.
-pub record Between (n a b : ℕ) : Type 0 where
-  pub low-a : a < 63
-  pub low-b : b < 41
-  pub more : 2 ≤ restAt n a b
 
 pub between : (n a b : ℕ) → n < 2 ^ 64 → 2 ≤ restAt n a b → Between n a b
 between n a b f h =

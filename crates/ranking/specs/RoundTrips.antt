@@ -3,29 +3,25 @@
 -- record to the chain at its position and back; from a word to its record and back; from a word to the next one.
 -- That the outcomes are 003's chains and their positions, each as the service's definition has it, is in Outcomes.
 use mathlib.Core.Path.{_≡_, refl, sym, ap, _∙_}
-use mathlib.Core.Logic.{_↔_}
+use mathlib.Core.Logic.{_↔_, Iff·trans}
 use mathlib.Core.Bool.{Bool, true, false, cond}
 use mathlib.Core.List.{List, map}
 use Prim.Native.Nat.{ℕ, _+_, _^_, _≤_, _<_}
-use native.Mathlib.Decide.{decLt}
 use native.Mathlib.Omega.{arith}
-use lib.Dec.{ltb}
 use lib.ListN.{length, take, length-map}
-use borrow.Author.Tests.{le-ltb}
 use Rattle.lent.specs.LentLaws.{filled-first, scratch-enough, enough}
 use Rattle.chains.specs.Chains.{Part, ChainOf}
 use Rattle.chains.specs.Words.{Word, wordOf}
 use Rattle.chains.specs.Listing.{count, position}
-use Rattle.chains.specs.PositionsOfChains.{at-position}
 use Rattle.lent.specs.Lent.{filled, scratchSize, littleScratch, tooLittle, Enough}
 use Rattle.parts.specs.Parts.{partNumber}
 use Rattle.words.specs.Conversions.{writtenOf, lettersLeft}
 use Rattle.words.specs.WordLaws.{chain-written}
 use Rattle.words.specs.declared.Written.the-variants as written
 use Rattle.ranking.specs.Services.{Outcome, refused, gives, lent, lentScratch, answerOf, placesLeft}
-use Rattle.ranking.specs.Services.{placedOf, atPosition, ofWord, nextOf, ofRecord}
-use Rattle.ranking.specs.Outcomes.{at-below, at-past, at-chain, at-gives, of-chain, of-gives, next-below, next-last}
-use Rattle.ranking.specs.Outcomes.{next-gives, record-chain, record-gives}
+use Rattle.ranking.specs.Services.{placedOf, atPosition, ofWord, after, nextOf, ofRecord}
+use Rattle.ranking.specs.Outcomes.{no-refusal, standing-refused, at-chain, at-gives, of-chain, of-gives}
+use Rattle.ranking.specs.Outcomes.{after-refused, next-below, next-last, next-gives, record-chain, record-gives}
 use Rattle.ranking.specs.declared.Placed.the-variants as placed
 use Rattle.ranking.specs.declared.Found.the-variants as found
 
@@ -39,9 +35,29 @@ lent-enough scratch places o e = rw e
 pub lent-all : (scratch places : List ℕ) (o : Outcome) → Enough 64 scratch places → lent scratch places o ≡ o
 lent-all scratch places o h = lent-enough scratch places o (enough 64 scratch places h)
 
-lent-scratch : (scratch : List ℕ) (o : Outcome) → scratchSize ≤ length scratch → lentScratch scratch o ≡ o
+pub lent-scratch : (scratch : List ℕ) (o : Outcome) → scratchSize ≤ length scratch → lentScratch scratch o ≡ o
 unfolding lentScratch
 lent-scratch scratch o h = rw (scratch-enough scratch h)
+
+-- A refusal is answered exactly if the outcome is one,
+answer-refused : (o : Outcome) (r : ℕ) → (answerOf o ≡ found.Refused r) ↔ (o ≡ refused r)
+unfolding answerOf
+answer-refused (refused q) r = (λ e. cc, λ e. cc)
+answer-refused (gives n c) r = (λ e. let z : _≡_ {A = ℕ} 0 1 = cc in absurd (omega arith), λ e. absurd (no-refusal n c r e))
+
+placed-as : (o : Outcome) (r : ℕ) → (placedOf o ≡ placed.Refused r) ↔ (o ≡ refused r)
+unfolding placedOf
+placed-as (refused q) r = (λ e. cc, λ e. cc)
+placed-as (gives n c) r = (λ e. let z : _≡_ {A = ℕ} 0 1 = cc in absurd (omega arith), λ e. absurd (no-refusal n c r e))
+
+-- where enough is lent: scratch and places, or a scratch alone.
+pub found-refused : (s p : List ℕ) → Enough 64 s p → (o : Outcome) (r : ℕ)
+    → (answerOf (lent s p o) ≡ found.Refused r) ↔ (o ≡ refused r)
+found-refused s p h o r = rw (lent-all s p o h) (answer-refused o r)
+
+pub placed-refused : (s : List ℕ) → scratchSize ≤ length s → (o : Outcome) (r : ℕ)
+    → (placedOf (lentScratch s o) ≡ placed.Refused r) ↔ (o ≡ refused r)
+placed-refused s h o r = rw (lent-scratch s o h) (placed-as o r)
 
 -- A chain is answered only where enough is lent and the service's own outcome gives one.
 own-gives :
@@ -193,16 +209,10 @@ pub position-refused :
     (n i : ℕ) (scratch places : List ℕ)
     → Enough 64 scratch places
     → (answerOf (lent scratch places (atPosition n i)) ≡ found.Refused 6) ↔ (count n ≤ i)
-unfolding answerOf
+unfolding atPosition
 position-refused n i scratch places h =
-    rw (lent-enough scratch places (atPosition n i) (enough 64 scratch places h))
-    (λ e. only e (decLt i (count n)), λ l. rw (at-past n i l))
-  where
-    only : answerOf (atPosition n i) ≡ found.Refused 6 → Dec (i < count n) → count n ≤ i
-    only e (yes l) =
-        let z : _≡_ {A = ℕ} 0 1 = cc (rw (at-below n i l) at e) in
-        absurd (omega arith)
-    only e (no l) = omega arith
+    Iff·trans (found-refused scratch places h (atPosition n i) 6)
+    (Iff·trans (standing-refused 6 n i 6) (λ g. g .1, λ l. (refl, l)))
 
 -- ---- words and records
 
@@ -283,25 +293,14 @@ word-then-next w n j k scratch places e =
       ap (lent scratch places) (given ∙ sym (rw there at (at-chain n c chain))),
     )
 
-last : (n : ℕ) (c : List Part) → ChainOf n c → n < 2 ^ 64
-    → (answerOf (nextOf (ofWord (wordOf c))) ≡ found.Refused 11) ↔ (position n c + 1 ≡ count n)
-unfolding answerOf
-last n c h f = (λ e. only e (decLt (position n c + 1) (count n)), λ l. rw (next-last n c h f l))
-  where
-    only : answerOf (nextOf (ofWord (wordOf c))) ≡ found.Refused 11 → Dec (position n c + 1 < count n) → position n c + 1 ≡ count n
-    only e (yes l) =
-        let g = rw (next-below n c h f l, at-below n (position n c + 1) l) at e in
-        let z : _≡_ {A = ℕ} 0 1 = cc g in
-        absurd (omega arith)
-    only e (no l) = omega (arith, at-position n c h .0)
-
 -- It is refused with 11 exactly where that is the last position.
 pub next-refused :
     (w : Word) (n i k : ℕ) (scratch places : List ℕ)
     → answerOf (lent scratch places (ofWord w)) ≡ found.Chain n i k
     → (answerOf (lent scratch places (nextOf (ofWord w))) ≡ found.Refused 11) ↔ (i + 1 ≡ count n)
-unfolding answerOf
+unfolding nextOf
 next-refused w n i k scratch places e =
     found-gives scratch places (ofWord w) n i k e λ c given own there size.
     let (chain, word, f) = of-gives w n c given in
-    rw (lent-enough scratch places (nextOf (ofWord w)) own, ← word, ← there) (last n c chain f)
+    rw (lent-enough scratch places (nextOf (ofWord w)) own, given, ← there)
+    (Iff·trans (answer-refused (after n c) 11) (Iff·trans (after-refused n c chain 11) (λ g. g .1, λ l. (refl, l))))

@@ -1,4 +1,4 @@
--- The services that find a chain or its place in the list of n: document 01, 'Services and memory' and the table of refusals.
+-- The services that find a chain or its position in the list of n: document 01, 'Services and memory' and the table of refusals.
 --
 -- Each service has an outcome: a refusal by its number, or a chain of n. What it answers, and what it leaves in the places and in
 -- the scratch (`scratchLeft` in lent), follow from the outcome alone, by one rule for all services.
@@ -8,9 +8,8 @@ use mathlib.Core.List.{List, map}
 use Prim.Native.Nat.{ℕ, _+_, _^_}
 use lib.Dec.{ltb, leb}
 use lib.ListN.{length}
-use Rattle.chains.specs.Chains.{Part}
+use Rattle.chains.specs.Chains.{Part, total}
 use Rattle.chains.specs.Words.{Word, chainOf, reads}
-use Rattle.chains.specs.Weight.{weight}
 use Rattle.chains.specs.Listing.{count, position, chainAt}
 use Rattle.lent.specs.Lent.{filled, littleScratch, tooLittle}
 use Rattle.parts.specs.Parts.{partNumber}
@@ -55,11 +54,11 @@ standing r n i = cond (leb (count n) i) (refused r) (gives n (chainAt n i))
 unfoldable pub atPosition : ℕ → ℕ → Outcome
 atPosition n i = standing 6 n i
 
--- Reading a word: 7 where it is not good, 10 where it stands for 2^64 or more.
+-- Reading a word: 7 where it is not good, 10 where its parts sum to 2^64 or more.
 unfoldable pub ofWord : Word → Outcome
 ofWord w =
     cond (reads true w)
-    (cond (ltb (weight w) (2 ^ 64)) (gives (weight w) (chainOf w)) (refused 10))
+    (cond (ltb (total (chainOf w)) (2 ^ 64)) (gives (total (chainOf w)) (chainOf w)) (refused 10))
     (refused 7)
 
 -- The chain after a chain c of n: 11 where c is the last.

@@ -1,7 +1,7 @@
 -- What the walks over a count table, and the calls around them, ask for and keep. Only private functions cite these definitions;
 -- what the services answer and leave behind is in Services.
--- In order: the table; the walk from a word to its position; the walk from a position to its word; the calls that fill, use and
--- zero the table. The laws by which a walk starts, goes on and ends are in the proofs, Walked.
+-- In order: the table and its points; the walk from a word to its position; the walk from a position to its word; the calls that
+-- fill, use and zero the table. The laws by which a walk starts, goes on and ends are in the proofs, Walked.
 use mathlib.Core.Path.{_≡_}
 use mathlib.Core.Bool.{Bool, true}
 use mathlib.Core.List.{List, [], _∷_, _++_, List·Memᴰ}
@@ -20,6 +20,12 @@ use Rattle.counting.specs.Table.{countCell}
 pub record Tabled (n : ℕ) (scratch : List ℕ) : Type 0 where
   pub size : scratchSize ≤ length scratch
   pub table : Table countCell n scratch
+
+-- A point (a, b) of a walk where a letter stands that is not the last.
+pub record Between (n a b : ℕ) : Type 0 where
+  pub low-a : a < 63
+  pub low-b : b < 41
+  pub more : 2 ≤ restAt n a b
 
 -- ---- from a word to its position
 

@@ -1,4 +1,4 @@
-// Finding a chain or its place in the list of n, on a lent scratch.
+// Finding a chain or its position in the list of n, on a lent scratch.
 mod tables;
 mod walks;
 
@@ -11,7 +11,7 @@ ghost use Rattle.lent.specs.Lent.{littleScratch, tooLittle, scratchLeft};
 ghost use Rattle.ranking.specs.Services.{lent, answerOf, placesLeft, atPosition, ofWord, nextOf};
 ghost use Rattle.ranking.specs.Services.{ofRecord, placedOf, lentScratch};
 
-// Where a record's chain stands, or the refusal.
+// The number that a record's chain sums to and the chain's position in its list, or the refusal.
 pub enum Placed {
     At { n: u64, position: u64 },
     Refused(u8),

@@ -44,7 +44,7 @@ pub fn position_of(n: u64, letters: &[u8], scratch: &mut [u64]) -> u64
     position
 }
 
-// Where the chain of a good word stands, or refusal 10.
+// The number and the position of a good word's chain, or refusal 10.
 pub fn place_word(letters: &[u8], scratch: &mut [u64]) -> Placed
     requires { ⌜ Readable (now letters) (now scratch) ⌝ }
     ensures { λ r. ⌜ r ≡ placedOf (ofWord (now (letters .entry))) ⌝ }

@@ -6,8 +6,8 @@ ghost use Prim.Native.Nat.{_+_, _/_, _<_};
 ghost use Rattle.chains.specs.Listing.{listOf, countBefore};
 ghost use Rattle.chains.specs.Counts.{ways};
 ghost use Rattle.grid.specs.Rests.{restAt};
-ghost use Rattle.ranking.specs.Points.{Between};
-ghost use Rattle.ranking.specs.Walks.{Tabled, RankStart, RankStep, RankWalked, WordStart, WordStep, WordRisen, WordFound};
+ghost use Rattle.ranking.specs.Walks.{Tabled, Between, RankStart, RankStep, RankWalked};
+ghost use Rattle.ranking.specs.Walks.{WordStart, WordStep, WordRisen, WordFound};
 
 // How many words begin with a rise of a at the point (a, b): the number in the next column.
 fn rising_a(n: u64, a: usize, b: usize, scratch: &[u64]) -> u64

@@ -8,8 +8,9 @@ use native.Mathlib.Omega.{arith}
 use lib.Dec.{ltb}
 use lib.ListN.{drop}
 use borrow.Author.Tests.{lt-ltb, le-ltb, ltb-false}
-use Rattle.chains.specs.Words.{Word}
-use Rattle.chains.specs.Weight.{weight}
+use Rattle.chains.specs.Chains.{total}
+use Rattle.chains.specs.Words.{Word, chainOf}
+use Rattle.chains.specs.Weight.{weight, total-chainOf}
 use Rattle.words.specs.Answers.{sized}
 use Rattle.words.specs.declared.Weighed.the-variants.{Number, Over}
 
@@ -46,7 +47,10 @@ letter-more (suc (suc zero)) w = omega arith
 letter-more (suc (suc (suc zero))) w = omega arith
 letter-more (suc (suc (suc (suc x)))) w = omega arith
 
-pub drop-less : (i : ℕ) (w : Word) → weight (drop i w) ≤ weight w
-drop-less zero w = le-refl (weight w)
-drop-less (suc i) [] = le-refl (weight [])
-drop-less (suc i) (l ∷ w) = le-trans (drop-less i w) (letter-more l w)
+weight-drop : (i : ℕ) (w : Word) → weight (drop i w) ≤ weight w
+weight-drop zero w = le-refl (weight w)
+weight-drop (suc i) [] = le-refl (weight [])
+weight-drop (suc i) (l ∷ w) = le-trans (weight-drop i w) (letter-more l w)
+
+pub drop-less : (i : ℕ) (w : Word) → total (chainOf (drop i w)) ≤ total (chainOf w)
+drop-less i w = omega (arith, total-chainOf (drop i w), total-chainOf w, weight-drop i w)

@@ -2,9 +2,9 @@
 use mathlib.Core.Bool.{true, cond, _&&_}
 use Prim.Native.Nat.{ℕ, _^_}
 use lib.Dec.{ltb}
-use Rattle.chains.specs.Words.{Word, reads}
+use Rattle.chains.specs.Chains.{total}
+use Rattle.chains.specs.Words.{Word, chainOf, reads}
 use Rattle.chains.specs.Listing.{before}
-use Rattle.chains.specs.Weight.{weight}
 use Rattle.words.specs.declared.Compared.{Compared}
 use Rattle.words.specs.declared.Compared.the-variants.{Earlier, Same, Later, Refused}
 use Rattle.words.specs.declared.Weighed.{Weighed}
@@ -22,6 +22,6 @@ comparedOf u v = cond (reads true u && reads true v) (orderOf u v) (Refused 7)
 unfoldable pub sized : ℕ → Weighed
 sized n = cond (ltb n (2 ^ 64)) (Number n) Over
 
--- The number that a word stands for, or that it is 2^64 or more.
+-- The sum of the parts that a word marks, or that it is 2^64 or more.
 unfoldable pub weighedOf : Word → Weighed
-weighedOf w = sized (weight w)
+weighedOf w = sized (total (chainOf w))

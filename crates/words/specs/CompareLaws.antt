@@ -13,12 +13,13 @@ use Rattle.chains.specs.Listing.{before}
 use Rattle.chains.specs.Readers.{readers-good}
 use Rattle.chains.specs.Order.{before-irrefl, before-trans}
 use Rattle.words.specs.Answers.{orderOf, comparedOf}
+use Rattle.words.specs.TestLaws.{one-of-both}
 use Rattle.words.specs.declared.Compared.the-variants.{Earlier, Same, Later, Refused}
 
-never-refused : (a b : Bool) → cond a Earlier (cond b Later Same) ≡ Refused 7 → ⊥
-never-refused true b e = let z : _≡_ {A = ℕ} 0 1 = cc in omega arith
-never-refused false true e = let z : _≡_ {A = ℕ} 0 1 = cc in omega arith
-never-refused false false e = let z : _≡_ {A = ℕ} 0 1 = cc in omega arith
+never-refused : (r : ℕ) (a b : Bool) → ¬ (cond a Earlier (cond b Later Same) ≡ Refused r)
+never-refused r true b e = let z : _≡_ {A = ℕ} 0 1 = cc in omega arith
+never-refused r false true e = let z : _≡_ {A = ℕ} 0 1 = cc in omega arith
+never-refused r false false e = let z : _≡_ {A = ℕ} 0 1 = cc in omega arith
 
 -- Refusal 7 exactly if one of the two words is not good.
 pub compared-refused : (u v : Word) → (comparedOf u v ≡ Refused 7) ↔ ((Good u → ⊥) ⊎ (Good v → ⊥))
@@ -28,11 +29,19 @@ compared-refused u v = go (reads true u) (reads true v) (readers-good u) (reader
     go : (p q : Bool) → T p ↔ Good u → T q ↔ Good v
         → (cond (p && q) (orderOf u v) (Refused 7) ≡ Refused 7) ↔ ((Good u → ⊥) ⊎ (Good v → ⊥))
     go true true gu gv = (
-      λ e. absurd (never-refused (before u v) (before v u) e),
+      λ e. absurd (never-refused 7 (before u v) (before v u) e),
       ⊎-elim (λ (n : Good u → ⊥). absurd (n (gu .0 tt))) (λ (n : Good v → ⊥). absurd (n (gv .0 tt))),
     )
     go true false gu gv = (λ _. inr (gv .1), λ _. refl)
     go false q gu gv = (λ _. inl (gu .1), λ _. refl)
+
+-- No other refusal.
+pub compared-no-other : (u v : Word) (r : ℕ) → comparedOf u v ≡ Refused r → r ≡ 7
+unfolding comparedOf orderOf
+compared-no-other u v r e =
+    ⊎-elim (λ (f : orderOf u v ≡ Refused r). absurd (never-refused r (before u v) (before v u) f))
+    (λ (f : Refused 7 ≡ Refused r). cc)
+    (one-of-both (reads true u && reads true v) (orderOf u v) (Refused 7) (Refused r) e)
 
 -- Good words in the three ways in which they can stand: each of them has its answer.
 module _ (u v : Word) (gu : Good u) (gv : Good v) where

@@ -1,12 +1,12 @@
 -- What writing a chain's word and reading a word's parts answer, and what each leaves in the places it was lent, at all inputs:
 -- document 01, 'Services and memory' and the table of refusals.
-use mathlib.Core.Bool.{true, false}
+use mathlib.Core.Bool.{true, cond}
 use mathlib.Core.List.{List, map}
 use Prim.Native.Nat.{ℕ, _^_}
 use lib.Dec.{ltb}
 use lib.ListN.{length}
+use Rattle.chains.specs.Chains.{total}
 use Rattle.chains.specs.Words.{Word, wordOf, chainOf, reads}
-use Rattle.chains.specs.Weight.{weight}
 use Rattle.parts.specs.Parts.{partNumber}
 use Rattle.lent.specs.Lent.{filled}
 use Rattle.words.specs.Records.{recordParts, judgedOf}
@@ -26,7 +26,7 @@ lettersOf l (judged.Refused r) = written.Refused r
 
 -- The answer: 1 where fewer than 64 places are lent, then what the record gets.
 unfoldable pub writtenOf : List ℕ → ℕ → Written
-writtenOf l places = elim (ltb places 64) [ true ↦ written.Refused 1 | false ↦ lettersOf l (judgedOf l) ]
+writtenOf l places = cond (ltb places 64) (written.Refused 1) (lettersOf l (judgedOf l))
 
 -- What the places hold: the letters, zeros up to 64, later places untouched; with a refusal all are untouched.
 unfoldable pub lettersLeft : List ℕ → List ℕ → Written → List ℕ
@@ -35,17 +35,14 @@ lettersLeft l entry (written.Refused r) = entry
 
 -- ---- from a word to its parts
 
--- The answer: 1 where fewer than 64 places are lent, 7 for a word that is not good, 10 where it stands for 2^64 or more (or one
--- part alone does: then the sum does too); else the number and how many parts.
+-- The answer: 1 where fewer than 64 places are lent, 7 for a word that is not good, 10 where its parts sum to 2^64 or more (so too
+-- where one part alone is that large); else the sum and how many parts.
 unfoldable pub partedOf : Word → ℕ → Parted
 partedOf w places =
-    elim (ltb places 64) [
-      | true ↦ parted.Refused 1
-      | false ↦ elim (reads true w) [
-        | true ↦ elim (ltb (weight w) (2 ^ 64)) [ true ↦ parted.Chain (weight w) (length (chainOf w)) | false ↦ parted.Refused 10 ]
-        | false ↦ parted.Refused 7
-      ]
-    ]
+    cond (ltb places 64) (parted.Refused 1)
+    (cond (reads true w)
+    (cond (ltb (total (chainOf w)) (2 ^ 64)) (parted.Chain (total (chainOf w)) (length (chainOf w))) (parted.Refused 10))
+    (parted.Refused 7))
 
 -- What the places hold: the part numbers, largest part first, zeros up to 64, later places untouched; with a refusal all untouched.
 unfoldable pub numbersLeft : Word → List ℕ → Parted → List ℕ

@@ -18,7 +18,8 @@ use Rattle.chains.specs.Divides.{value-pos}
 use Rattle.parts.specs.Table.{parts}
 use Rattle.parts.specs.Parts.{limit, sumAt}
 use Rattle.parts.specs.Numbers.{part-value}
-use Rattle.words.specs.Records.{recordParts, beyond, chainedTest, judgedOf}
+use Rattle.words.specs.Records.{recordParts, beyond, chainedTest, Burned, judgedOf}
+unfoldable pub use Rattle.words.specs.Records.{InTable}
 use Rattle.words.specs.declared.Judged.the-variants.{Sum, Refused}
 
 -- ---- the chain condition
@@ -54,10 +55,6 @@ chained-test (p ∷ q ∷ c) =
 
 -- ---- the numbers
 
--- Every number of a record is in the table.
-unfoldable pub InTable : List ℕ → Type 0
-InTable l = (i : ℕ) → i < length l → getD l i 0 < 1344
-
 pub neither : (a b : Bool) → (a || b) ≡ false → (a ≡ false) × (b ≡ false)
 neither true b e = absurd (true≢false e)
 neither false b e = (refl, e)
@@ -90,13 +87,6 @@ record-sum (i ∷ l) e =
 
 -- ---- the record
 
--- At most 64 numbers, all in the table, whose parts are a chain of n, a number below 2^64.
-pub record Burned (l : List ℕ) (n : ℕ) : Type 0 where
-  pub few : length l ≤ 64
-  pub known : InTable l
-  pub chain : ChainOf n (recordParts l)
-  pub fits : n < 2 ^ 64
-
 -- How the three tests stand where the answer is a sum.
 tests-passed :
     (a b c : Bool) (t n : ℕ)
@@ -107,7 +97,7 @@ tests-passed false false c t n e = let z : _≡_ {A = ℕ} 0 1 = cc in absurd (o
 tests-passed false true true t n e = let z : _≡_ {A = ℕ} 0 1 = cc in absurd (omega arith)
 tests-passed false true false t n e = (refl, refl, refl, cc)
 
--- A record gets its sum exactly if it is such a one.
+-- A record gets its sum exactly if it names a chain of that number.
 pub judged-sum : (l : List ℕ) (n : ℕ) → (judgedOf l ≡ Sum n) ↔ Burned l n
 unfolding judgedOf
 judged-sum l n = (there, back)

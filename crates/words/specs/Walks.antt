@@ -8,8 +8,7 @@ use lib.ListN.{take, drop}
 use Rattle.chains.specs.Chains.{Part, Chained, total}
 use Rattle.parts.specs.Table.{parts}
 use Rattle.parts.specs.declared.Exponents.{Exponents}
-use Rattle.words.specs.Records.{recordParts, beyond}
-use Rattle.words.specs.RecordLaws.{Burned}
+use Rattle.words.specs.Records.{recordParts, beyond, Burned}
 
 -- ---- from a record to its word
 

@@ -1,7 +1,7 @@
 -- Records, chains and words lead to each other, for 003's chains and for the services' own answers.
 -- In order: a record written as a word, and a good word taken apart; a chain of n below 2^64, its record and its word. The answers
 -- are defined in Records and Conversions.
-use mathlib.Core.Path.{_≡_, refl, ap, ap₂, _∙_}
+use mathlib.Core.Path.{_≡_, refl, ap, ap₂}
 use mathlib.Core.Bool.{true, false}
 use mathlib.Core.List.{List, [], _∷_, map}
 use Prim.Native.Nat.{ℕ, _^_, _≤_, _<_}
@@ -12,9 +12,8 @@ use lib.ListN.{length, length-map}
 use borrow.Author.Tests.{lt-ltb, le-ltb, lt-leb}
 use Rattle.chains.specs.Chains.{Part, value, total, ChainOf}
 use Rattle.chains.specs.Words.{Word, wordOf, chainOf, reads}
-use Rattle.chains.specs.Weight.{weight}
 use Rattle.chains.specs.RoundTrip.{chain-word-chain, word-reads}
-use Rattle.chains.specs.Bounds.{parts-bound, weight-wordOf}
+use Rattle.chains.specs.Bounds.{parts-bound}
 use Rattle.parts.specs.Parts.{limit, partNumber}
 use Rattle.parts.specs.Numbers.{parts-complete, part-of-number, number-of-part}
 use Rattle.lent.specs.Lent.{filled}
@@ -47,7 +46,7 @@ parts-of-numbers (p ∷ c) h =
     let (first, rest) = both-below p c h in
     ap₂ (λ q d. q ∷ d) (part-of-number p first) (parts-of-numbers c rest)
 
--- The numbers of a record are the places of their parts.
+-- The numbers of a record are those of its parts.
 pub numbers-of-parts : (l : List ℕ) → beyond l ≡ false → map partNumber (recordParts l) ≡ l
 unfolding recordParts
 numbers-of-parts [] e = refl
@@ -69,13 +68,13 @@ module _ (entry : List ℕ) (room : 64 ≤ length entry) where
       (told, ap (λ x. lettersLeft l entry x) told)
 
   -- A good word below 2^64 is taken apart into the numbers of its chain.
-  word-parted : (w : Word) → T (reads true w) → weight w < 2 ^ 64
-      → (partedOf w (length entry) ≡ parted.Chain (weight w) (length (chainOf w)))
+  word-parted : (w : Word) → T (reads true w) → total (chainOf w) < 2 ^ 64
+      → (partedOf w (length entry) ≡ parted.Chain (total (chainOf w)) (length (chainOf w)))
       × (numbersLeft w entry (partedOf w (length entry)) ≡ filled 64 (map partNumber (chainOf w)) entry)
   unfolding partedOf numbersLeft
   word-parted w g h =
-      let told : partedOf w (length entry) ≡ parted.Chain (weight w) (length (chainOf w)) =
-      rw (partedOf, le-ltb (length entry) 64 room, is-true (reads true w) g, lt-ltb (weight w) (2 ^ 64) h) refl in
+      let told : partedOf w (length entry) ≡ parted.Chain (total (chainOf w)) (length (chainOf w)) =
+      rw (partedOf, le-ltb (length entry) 64 room, is-true (reads true w) g, lt-ltb (total (chainOf w)) (2 ^ 64) h) refl in
       (told, ap (λ x. numbersLeft w entry x) told)
 
 -- ---- a chain of n, a number below 2^64
@@ -107,5 +106,5 @@ module _ (n : ℕ) (c : List Part) (chain : ChainOf n c) (fits : n < 2 ^ 64) whe
         (partedOf (wordOf c) (length entry) ≡ parted.Chain n (length c))
         × (numbersLeft (wordOf c) entry (partedOf (wordOf c) (length entry)) ≡ filled 64 (map partNumber c) entry)
     chain-parted =
-        let e : weight (wordOf c) ≡ n = weight-wordOf c (chain .chained) ∙ chain .sums in
-        rw (chain-word-chain c (chain .chained), e) at (word-parted entry room (wordOf c) (word-reads c) (rw e fits))
+        let back : chainOf (wordOf c) ≡ c = chain-word-chain c (chain .chained) in
+        rw (back, chain .sums) at (word-parted entry room (wordOf c) (word-reads c) (rw back summed))

@@ -8,9 +8,8 @@ ghost use mathlib.Core.Bool.{true};
 ghost use mathlib.Core.List.{_++_, map};
 ghost use Prim.Native.Nat.{_^_, _<_, _≤_};
 ghost use lib.ListN.{length, drop};
-ghost use Rattle.chains.specs.Chains.{value};
+ghost use Rattle.chains.specs.Chains.{value, total};
 ghost use Rattle.chains.specs.Words.{reads, chainOf};
-ghost use Rattle.chains.specs.Weight.{weight};
 ghost use Rattle.lent.specs.Lent.{filled};
 ghost use Rattle.parts.specs.Parts.{partNumber};
 
@@ -40,9 +39,9 @@ fn number_at(a: u64, b: u64) -> u16
 
 // The numbers of the word's k parts in the first k places, the largest part first: the walk meets the smallest one first, which
 // has the last place. The number of each point is stored where the next part's belongs: if the point is no part, a later store
-// takes its place, since the last point is a part.
+// overwrites it, since the last point is a part.
 fn store_numbers(letters: &[u8], places: &mut [u16], k: usize)
-    requires { ⌜ (reads true (now letters) ≡ true) × (weight (now letters) < 2 ^ 64)
+    requires { ⌜ (reads true (now letters) ≡ true) × (total (chainOf (now letters)) < 2 ^ 64)
         × (k ≡ length (chainOf (now letters))) × (k ≤ length (now places)) ⌝ }
     ensures { λ _. ⌜ now (places .exit) ≡ map partNumber (chainOf (now (letters .entry))) ++ drop k (now (places .entry)) ⌝ }
 {
@@ -63,7 +62,7 @@ fn store_numbers(letters: &[u8], places: &mut [u16], k: usize)
 
 // The same, and zeros in the other places up to 64.
 pub fn fill_places(letters: &[u8], places: &mut [u16], k: usize)
-    requires { ⌜ (reads true (now letters) ≡ true) × (weight (now letters) < 2 ^ 64)
+    requires { ⌜ (reads true (now letters) ≡ true) × (total (chainOf (now letters)) < 2 ^ 64)
         × (k ≡ length (chainOf (now letters))) × (64 ≤ length (now places)) ⌝ }
     ensures { λ _. ⌜ now (places .exit) ≡ filled 64 (map partNumber (chainOf (now (letters .entry)))) (now (places .entry)) ⌝ }
 {

@@ -3,8 +3,8 @@ use super::Weighed;
 ghost use mathlib.Core.Path.{_≡_};
 ghost use mathlib.Core.List.{_∷_};
 ghost use Prim.Native.Nat.{_+_, _*_, _<_};
-ghost use Rattle.chains.specs.Words.{Word};
-ghost use Rattle.chains.specs.Weight.{weight};
+ghost use Rattle.chains.specs.Chains.{total};
+ghost use Rattle.chains.specs.Words.{Word, chainOf};
 ghost use Rattle.words.specs.Answers.{sized, weighedOf};
 
 // r + p × n, or that it is 2^64 or more.
@@ -20,7 +20,7 @@ fn scaled(n: u64, p: u64, r: u64) -> Weighed
 
 // What a letter before a word that stands for n makes of it: twice or three times as much, and one more for a part.
 pub fn with_letter(letter: u8, n: u64) -> Weighed
-    ensures { λ x. ⌜ ((w : Word) → weight w ≡ n → x ≡ weighedOf (letter ∷ w)) ⌝ }
+    ensures { λ x. ⌜ ((w : Word) → total (chainOf w) ≡ n → x ≡ weighedOf (letter ∷ w)) ⌝ }
 {
     match letter {
         0 => scaled(n, 2, 0),

@@ -8,8 +8,8 @@ use native.Mathlib.Omega.{arith}
 use lib.ListN.{length, drop, getD}
 use lib.Seq.{drop-cons, drop-length}
 use borrow.Author.Needs.{needs}
-use Rattle.chains.specs.Words.{Word}
-use Rattle.chains.specs.Weight.{weight}
+use Rattle.chains.specs.Chains.{total}
+use Rattle.chains.specs.Words.{Word, chainFrom, chainOf}
 use Rattle.words.specs.Answers.{sized, weighedOf}
 use Rattle.words.specs.declared.Weighed.{Weighed}
 use Rattle.words.specs.declared.Weighed.the-variants.{Number, Over}
@@ -18,20 +18,20 @@ use Rattle.words.proofs.weigh.Statement.{statement}
 use Rattle.words.proofs.weigh.Tie as tie
 
 none-read : (l : Word) → Number 0 ≡ weighedOf (drop (length l) l)
-unfolding weighedOf weight sized
+unfolding weighedOf sized total chainFrom chainOf
 none-read l = rw drop-length
 
 -- One letter more, the one before what has been read: x is what it gives.
 module _ (l : Word) (n i : ℕ) (h : 0 < i) (k : i ≤ length l) (read : Number n ≡ weighedOf (drop i l)) (x : Weighed) where
-  next : ((w : Word) → weight w ≡ n → x ≡ weighedOf (getD l (i - 1) 0 ∷ w)) → x ≡ weighedOf (drop (i - 1) l)
+  next : ((w : Word) → total (chainOf w) ≡ n → x ≡ weighedOf (getD l (i - 1) 0 ∷ w)) → x ≡ weighedOf (drop (i - 1) l)
   unfolding weighedOf
   next f =
       let e : suc (i - 1) ≡ i = omega arith in
       rw (drop-cons l (i - 1) 0 (omega arith), e) (f (drop i l) (sym (number-is _ n read)))
 
-  over : ((w : Word) → weight w ≡ n → x ≡ weighedOf (getD l (i - 1) 0 ∷ w)) → x ≡ Over → Over ≡ weighedOf l
+  over : ((w : Word) → total (chainOf w) ≡ n → x ≡ weighedOf (getD l (i - 1) 0 ∷ w)) → x ≡ Over → Over ≡ weighedOf l
   unfolding weighedOf
-  over f e = sym (sized-over (weight l) (le-trans (over-is _ (sym e ∙ next f)) (drop-less (i - 1) l)))
+  over f e = sym (sized-over (total (chainOf l)) (le-trans (over-is _ (sym e ∙ next f)) (drop-less (i - 1) l)))
 
 abbrev Inv-loop : tie.InvT-loop
 Inv-loop letters n₀ i₀ n i = (i ≤ length letters) × (Number n ≡ weighedOf (drop i letters))

@@ -7,8 +7,8 @@ use native.Mathlib.Omega.{arith}
 use lib.ListN.{length}
 use borrow.Author.Needs.{needs}
 use borrow.Author.Tests.{lt-ltb, le-ltb, not-true, not-false}
+use Rattle.chains.specs.Chains.{total}
 use Rattle.chains.specs.Words.{Word, reads, chainOf}
-use Rattle.chains.specs.Weight.{weight}
 use Rattle.lent.specs.Lent.{filled}
 use Rattle.parts.specs.Parts.{partNumber}
 use Rattle.words.specs.Answers.{weighedOf}
@@ -20,9 +20,9 @@ use Rattle.words.proofs.Sized.{number-is, over-is}
 use Rattle.words.proofs.word_parts.Statement.{statement}
 use Rattle.words.proofs.word_parts.Tie as tie
 
-fits : (w : Word) (n : ℕ) → Number n ≡ weighedOf w → n < 2 ^ 64 → weight w < 2 ^ 64
+fits : (w : Word) (n : ℕ) → Number n ≡ weighedOf w → n < 2 ^ 64 → total (chainOf w) < 2 ^ 64
 unfolding weighedOf
-fits w n e f = omega (arith, number-is (weight w) n e)
+fits w n e f = omega (arith, number-is (total (chainOf w)) n e)
 
 -- The answer r, and the places l at exit.
 abbrev Told : Word → List ℕ → Parted → List ℕ → Type 0
@@ -45,13 +45,13 @@ module _ (w : Word) (entry : List ℕ) where
     module _ (good : g ≡ true) where
       over : Over ≡ weighedOf w → Told w entry (Refused 10) entry
       unfolding partedOf numbersLeft weighedOf
-      over e = told (Refused 10) entry (cc (le-ltb (length entry) 64 room, le-ltb (weight w) (2 ^ 64) (over-is (weight w) e))) refl
+      over e = told (Refused 10) entry (cc (le-ltb (length entry) 64 room, le-ltb (total (chainOf w)) (2 ^ 64) (over-is (total (chainOf w)) e))) refl
 
       chain : (n k : ℕ) (l : List ℕ) → Number n ≡ weighedOf w → n < 2 ^ 64 → k ≡ length (chainOf w)
           → l ≡ filled 64 (map partNumber (chainOf w)) entry → Told w entry (Chain n k) l
       unfolding partedOf numbersLeft weighedOf
       chain n k l e f d =
-          told (Chain n k) l (cc (le-ltb (length entry) 64 room, number-is (weight w) n e, lt-ltb (weight w) (2 ^ 64) (fits w n e f)))
+          told (Chain n k) l (cc (le-ltb (length entry) 64 room, number-is (total (chainOf w)) n e, lt-ltb (total (chainOf w)) (2 ^ 64) (fits w n e f)))
 
 pub word-parts-spec : {M : Type 1} → statement M
 word-parts-spec =

@@ -12,8 +12,8 @@ use Rattle.chains.specs.Chains.{Part, value, ProperMultiple, Chained}
 use Rattle.chains.specs.Words.{origin, path, marked, walk}
 use Rattle.chains.specs.Divides.{Above, multiple-above}
 use Rattle.parts.specs.Parts.{partAt}
-use Rattle.words.specs.Records.{recordParts}
-use Rattle.words.specs.RecordLaws.{InTable, in-table}
+use Rattle.words.specs.Records.{recordParts, InTable}
+use Rattle.words.specs.RecordLaws.{in-table}
 use Rattle.words.specs.Walks.{between, point, place, OnTheWay, WayBack}
 use Rattle.words.proofs.Between.{drop-between}
 use Rattle.words.proofs.letters.write_back.Statement.{statement}

@@ -11,8 +11,8 @@ use Rattle.chains.specs.Words.{Word, origin, path, marked, walk, wordOf}
 use Rattle.chains.specs.Bounds.{word-bound, word-length}
 use Rattle.parts.specs.Parts.{partAt}
 use Rattle.lent.specs.Lent.{zeros, filled}
-use Rattle.words.specs.Records.{recordParts}
-use Rattle.words.specs.RecordLaws.{InTable, in-table}
+use Rattle.words.specs.Records.{recordParts, InTable}
+use Rattle.words.specs.RecordLaws.{in-table}
 use Rattle.words.specs.Walks.{between, point, place, WayBack, Writable}
 use Rattle.words.proofs.Between.{run, between-none, between-more, between-join, drop-between}
 use Rattle.words.proofs.letters.write_letters.Statement.{statement}

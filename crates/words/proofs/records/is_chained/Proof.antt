@@ -16,8 +16,8 @@ use Rattle.chains.specs.Divides.{value-pos}
 use Rattle.parts.specs.Table.{parts}
 use Rattle.parts.specs.Parts.{partAt}
 use Rattle.parts.specs.Numbers.{part-value}
-use Rattle.words.specs.Records.{recordParts, beyond, chainedTest}
-use Rattle.words.specs.RecordLaws.{InTable, in-table, test-multiple}
+use Rattle.words.specs.Records.{recordParts, InTable, beyond, chainedTest}
+use Rattle.words.specs.RecordLaws.{in-table, test-multiple}
 use Rattle.words.proofs.records.is_chained.Statement.{statement}
 use Rattle.words.proofs.records.is_chained.Tie as tie
 

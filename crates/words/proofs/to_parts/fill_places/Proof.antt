@@ -9,8 +9,9 @@ use lib.ListN.{length, drop, length-map}
 use borrow.Author.Needs.{needs}
 use borrow.Rule.Slice.PartMut.{midOf, putMid}
 use Rattle.lent.specs.LentLaws.{length-filled, cleared, over-zeros}
+use Rattle.chains.specs.Chains.{total}
 use Rattle.chains.specs.Words.{Word, reads, chainOf}
-use Rattle.chains.specs.Weight.{weight}
+use Rattle.chains.specs.Weight.{total-chainOf}
 use Rattle.chains.specs.Bounds.{letters-bound, parts-letters}
 use Rattle.lent.specs.Lent.{zeros, filled}
 use Rattle.parts.specs.Parts.{partNumber}
@@ -19,11 +20,11 @@ use Rattle.words.proofs.to_parts.fill_places.Tie as tie
 
 -- The first 64 places come back as ys.
 module _
-    (w : Word) (entry : List ℕ) (k : ℕ) (good : T (reads true w)) (fits : weight w < 2 ^ 64) (count : k ≡ length (chainOf w))
+    (w : Word) (entry : List ℕ) (k : ℕ) (good : T (reads true w)) (fits : total (chainOf w) < 2 ^ 64) (count : k ≡ length (chainOf w))
     (room : 64 ≤ length entry) (ys : List ℕ) (zeroed : ys ≡ zeros (length (midOf 0 64 entry)))
   where
     few : k ≤ 64
-    few = omega (arith, parts-letters w, letters-bound 64 w good fits)
+    few = omega (arith, parts-letters w, letters-bound 64 w good (omega (arith, total-chainOf w)))
 
     back : putMid 0 64 entry ys ≡ filled 64 [] entry
     back = cleared 64 entry entry ys room refl zeroed

@@ -14,7 +14,7 @@ use lib.Seq.{drop-cons, drop-set-lt, getD-set-same, lt-length-set}
 use borrow.Author.Needs.{needs}
 use Rattle.chains.specs.Chains.{Part, value, total}
 use Rattle.chains.specs.Words.{Word, chainFrom, chainOf, reads, someLeft}
-use Rattle.chains.specs.Weight.{weight, total-chainFrom, total-chainOf}
+use Rattle.chains.specs.Weight.{weight, total-chainFrom}
 use Rattle.parts.specs.Parts.{limit, partNumber}
 use Rattle.chains.specs.Bounds.{part-bounds}
 use Rattle.words.proofs.Marks.{taken, point, chain-step, marks, marks-chain, part-left}
@@ -70,7 +70,7 @@ store-one (suc (suc r)) h l left more room n p e met behind s = absurd (omega ar
 -- Where the letter at i is left.
 module _
     {w : Word} {behind : List ℕ} {size : ℕ} {l : List ℕ} {a b left i : ℕ}
-    (c : Walk w behind size (drop i w) l a b left) (h : i < length w) (fits : weight w < limit)
+    (c : Walk w behind size (drop i w) l a b left) (h : i < length w) (fits : total (chainOf w) < limit)
   where
     here : Walk w behind size (getD w i 0 ∷ drop (suc i) w) l a b left
     here = rw (drop-cons w i 0 h) at c
@@ -82,7 +82,7 @@ module _
     small : value (point a b) < limit
     small =
         let p = point a b in
-        omega (arith, le-mul-of-pos-right (value p) (some .1), total-chainFrom p (c .met) (drop i w), ap total (c .chain), total-chainOf w)
+        omega (arith, le-mul-of-pos-right (value p) (some .1), total-chainFrom p (c .met) (drop i w), ap total (c .chain))
 
     bounds : Bounds l (getD w i 0) a b left
     bounds = omega (arith, some .0, taken (here .reader) (getD w i 0) (drop (suc i) w) (here .read) .0, part-bounds (point a b) small)

@@ -1,0 +1,28 @@
+-- What an answer that a test chooses between x and y says of the test. In order: the answer is x, or y, where they differ; the
+-- answer is z, which one of them is not; the answer is z, whichever of them that is. Several tests in a row are read one after the
+-- other: reading a word and reading a record are such answers (Refusals).
+use mathlib.Core.Path.{_≡_, refl}
+use mathlib.Core.Logic.{_↔_, _⊎_, inl, inr}
+use mathlib.Core.Bool.{Bool, true, false, cond}
+use lib.Dec.{T}
+
+module _ {X : Type 0} where
+  pub is-first : (a : Bool) (x y : X) → ¬ (y ≡ x) → (cond a x y ≡ x) ↔ T a
+  is-first true x y n = (λ _. tt, λ _. refl)
+  is-first false x y n = (n, absurd)
+
+  pub is-second : (a : Bool) (x y : X) → ¬ (x ≡ y) → (cond a x y ≡ y) ↔ (¬ T a)
+  is-second true x y n = (λ e. absurd (n e), λ h. absurd (h tt))
+  is-second false x y n = (λ _ t. t, λ _. refl)
+
+  pub in-first : (a : Bool) (x y z : X) → ¬ (y ≡ z) → (cond a x y ≡ z) ↔ (T a × (x ≡ z))
+  in-first true x y z n = (λ e. (tt, e), λ h. h .1)
+  in-first false x y z n = (λ e. absurd (n e), λ h. absurd (h .0))
+
+  pub in-second : (a : Bool) (x y z : X) → ¬ (x ≡ z) → (cond a x y ≡ z) ↔ ((¬ T a) × (y ≡ z))
+  in-second true x y z n = (λ e. absurd (n e), λ h. absurd (h .0 tt))
+  in-second false x y z n = (λ e. (λ t. t, e), λ h. h .1)
+
+  pub one-of-both : (a : Bool) (x y z : X) → cond a x y ≡ z → (x ≡ z) ⊎ (y ≡ z)
+  one-of-both true x y z e = inl e
+  one-of-both false x y z e = inr e
