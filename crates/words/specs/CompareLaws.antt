@@ -1,6 +1,6 @@
--- The comparison's answers in the terms of document 01, each exactly: refusal 7 if a word is not good, and no other refusal; of good
--- words earlier, later or the same, as they stand in the dictionary. The definitions are in Answers; that any two words are one, or
--- one is before the other, is in the crate chains, in Order.
+-- When the comparison gives which answer, in the terms of document 01: refusal 7 exactly if a word is not good, and no other
+-- refusal; of good words earlier, later or the same, exactly as they stand in the dictionary. The definitions are in Answers; that
+-- any two words are one, or one is before the other, is in the crate chains, in Order.
 use mathlib.Core.Path.{_≡_, refl}
 use mathlib.Core.Logic.{_↔_, _⊎_, inl, inr, ⊎-elim, Iff·and, Iff·rfl, Iff·trans}
 use mathlib.Core.Bool.{Bool, true, false, cond, _&&_}
