@@ -21,10 +21,12 @@ use lib.Ieee.Fits.{and-l, and-r}
 use lib.ListN.{length, length-append, length-replicate}
 use lib.Pow.{pow-add, pow-mono, pow-pos}
 use Rattle.chains.specs.Chains.{Part, value, Chained, total, ChainOf}
-use Rattle.chains.specs.Words.{Word, origin, path, marked, walk, wordOf, right, up, chainFrom, chainOf, someLeft, reads}
+use Rattle.chains.specs.Words.{Word, origin, path, marked, walk, wordOf, right, up, chainFrom, chainOf, Good, someLeft}
+use Rattle.chains.specs.Words.{reads}
 use Rattle.chains.specs.Listing.{one-if}
 use Rattle.chains.specs.Divides.{value-pos, Above, multiple-above}
 use Rattle.chains.specs.RoundTrip.{chain-word-chain, word-reads}
+use Rattle.chains.specs.Readers.{readers-good}
 use Rattle.chains.specs.Weight.{weight, total-chainOf}
 use Rattle.chains.specs.Rest.{pointAfter, weight-append}
 
@@ -169,11 +171,11 @@ unfolding one-if someLeft
 weight-pos true l v h = omega (arith, letters-weight (l ∷ v) true h, two-le-pow (l ∷ v) tt)
 weight-pos false l v h = omega (arith, letters-weight (l ∷ v) false h, two-le-pow (l ∷ v) tt)
 
--- A point where a letter stands has a value of at most the number that the word stands for. So a word with one 2^a × 3^b of 2^64 or
--- more stands for 2^64 or more: document 01, refusal 10.
+-- A point where a letter of a good word stands has a value of at most the sum of the word's parts. So the parts of a word with one
+-- 2^a × 3^b of 2^64 or more sum to 2^64 or more: document 01, refusal 10.
 pub point-at-most : (u : Word) (l : ℕ) (v : Word)
-    → T (reads true (u ++ (l ∷ v))) → value (pointAfter origin u) ≤ weight (u ++ (l ∷ v))
-point-at-most u l v h =
-    let r : (g : Bool) × T (reads g (l ∷ v)) = reads-rest u (l ∷ v) true h in
-    rw weight-append
+    → Good (u ++ (l ∷ v)) → value (pointAfter origin u) ≤ total (chainOf (u ++ (l ∷ v)))
+point-at-most u l v g =
+    let r : (f : Bool) × T (reads f (l ∷ v)) = reads-rest u (l ∷ v) true (readers-good (u ++ (l ∷ v)) .1 g) in
+    rw (total-chainOf (u ++ (l ∷ v)), weight-append)
     (omega (arith, le-mul-of-pos-right (value (pointAfter origin u)) (weight-pos (r .0) l v (r .1))))

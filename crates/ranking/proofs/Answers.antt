@@ -102,7 +102,8 @@ record-written l entry letters k h e f = go (judgedOf l) refl
         absurd (omega arith)
 
 -- A record that is refused.
-pub record-refused : (l : List ℕ) (room r : ℕ) → 64 ≤ room → writtenOf l room ≡ written.Refused r → placed.Refused r ≡ placedOf (ofRecord l)
+pub record-refused : (l : List ℕ) (room r : ℕ) → 64 ≤ room → writtenOf l room ≡ written.Refused r
+    → placed.Refused r ≡ placedOf (ofRecord l)
 unfolding lettersOf ofRecord judgedAs placedOf
 record-refused l room r h e = go (judgedOf l) refl
   where
@@ -127,7 +128,8 @@ module _ (w : Word) (entry : List ℕ) (h : 64 ≤ length entry) where
   unfolding partedOf ofWord partedAs
   word-parted = go (reads true w) refl (ltb (total (chainOf w)) (2 ^ 64)) refl
     where
-      go : (g : Bool) → reads true w ≡ g → (f : Bool) → ltb (total (chainOf w)) (2 ^ 64) ≡ f → partedOf w (length entry) ≡ partedAs (ofWord w)
+      go : (g : Bool) → reads true w ≡ g → (f : Bool) → ltb (total (chainOf w)) (2 ^ 64) ≡ f
+          → partedOf w (length entry) ≡ partedAs (ofWord w)
       go true good true fits = rw (le-ltb (length entry) 64 h, partedOf, good, fits)
       go true good false fits = rw (le-ltb (length entry) 64 h, partedOf, good, fits)
       go false good f fits = rw (le-ltb (length entry) 64 h, partedOf, good)
@@ -245,7 +247,8 @@ module _ (r n i : ℕ) (h : i < count n) (f : n < 2 ^ 64) where
           omega arith
 
     pub below-left :
-        numbersLeft (take (k - 0) letters) entry (partedOf (take (k - 0) letters) (length entry)) ≡ placesLeft (standing r n i) entry
+        numbersLeft (take (k - 0) letters) entry (partedOf (take (k - 0) letters) (length entry))
+        ≡ placesLeft (standing r n i) entry
     below-left = word-left (take (k - 0) letters) entry room ∙ ap (λ (o : Outcome). placesLeft o entry) word
 
 -- ---- the next chain of a word

@@ -226,7 +226,9 @@ module _ (n i : ℕ) (entry letters : Word) (a b rest left : ℕ) (w : WordWriti
   writing-more f x a′ b′ rest′ left′ r =
       record {
         walked = r .walked;
-        written = rw (r .passed) (take-stored letters (a + b) x (omega arith) ∙ ap (λ (v : Word). v ++ (x ∷ [])) (w .written) ∙ sym (r .spelled));
+        written =
+            rw (r .passed)
+            (take-stored letters (a + b) x (omega arith) ∙ ap (λ (v : Word). v ++ (x ∷ [])) (w .written) ∙ sym (r .spelled));
         low = word-low n i a′ b′ rest′ left′ (r .walked) f;
         room = rw length-set (w .room);
         same = rw length-set (w .same);
@@ -235,6 +237,7 @@ module _ (n i : ℕ) (entry letters : Word) (a b rest left : ℕ) (w : WordWriti
   pub writing-end : rest ≤ 1 → WordFound n i (a + b + 1) (set letters (a + b) 3)
   writing-end h =
       record {
-        word = take-stored letters (a + b) 3 (omega arith) ∙ ap (λ (v : Word). v ++ (3 ∷ [])) (w .written) ∙ sym (word-end n i a b rest left (w .walked) h);
+        word = take-stored letters (a + b) 3 (omega arith) ∙ ap (λ (v : Word). v ++ (3 ∷ [])) (w .written)
+            ∙ sym (word-end n i a b rest left (w .walked) h);
         room = omega arith;
       }

@@ -1,6 +1,6 @@
 -- The outcomes of the services, for chains and words of document 01 and 003.
--- For each service in turn: what it gives for a chain of n; that it gives nothing but a chain of n, with its position. Which refusal
--- a word or a record gets is in Refusals, round trips between the services are in RoundTrips.
+-- For each service in turn: what it gives for a chain of n; that it gives nothing but a chain of n, with its position. Which
+-- refusal a word or a record gets is in Refusals, round trips between the services are in RoundTrips.
 use mathlib.Core.Path.{_≡_, refl, sym, ap, _∙_}
 use mathlib.Core.Logic.{_↔_, Iff·and, Iff·rfl, Iff·trans}
 use mathlib.Core.Bool.{Bool, true, false, cond}

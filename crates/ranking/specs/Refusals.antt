@@ -1,31 +1,35 @@
 -- Which refusal each service gives, in the terms of document 01's table: each number exactly if what the table says holds, and no
--- other number. Refusal 1 comes first, for too little lent: here enough is lent.
--- In order: reading a word; the next chain; reading a record. The tables of
--- refusals, `WordRefusals` and `RecordRefusals`, are in words. That position i is refused with 6 exactly past the count is in
--- RoundTrips.
+-- other number.
+-- In order: reading a word; the next chain; reading a record, each where enough is lent; then refusal 1, which comes first, exactly
+-- where too little is lent. The tables of refusals, `WordRefusals` and `RecordRefusals`, are in words. That position i is refused
+-- with 6 exactly past the count is in RoundTrips.
 use mathlib.Core.Path.{_≡_, refl, sym, ap, _∙_}
 use mathlib.Core.Logic.{_↔_, _⊎_, inl, inr, ⊎-elim, Iff·trans}
 use mathlib.Core.Bool.{true}
-use mathlib.Core.List.{List}
+use mathlib.Core.List.{List, _∷_, _++_}
 use Prim.Native.Nat.{ℕ, _+_, _^_, _≤_, _<_}
+use native.Mathlib.Decide.{decLt}
 use native.Mathlib.Omega.{arith}
 use lib.Ieee.Bits.{is-true}
 use lib.ListN.{length}
 use borrow.Author.Tests.{lt-ltb}
-use Rattle.chains.specs.Chains.{total}
-use Rattle.chains.specs.Words.{Word, Good, chainOf, reads}
+use Rattle.chains.specs.Chains.{value, total}
+use Rattle.chains.specs.Words.{Word, origin, Good, chainOf, reads}
 use Rattle.chains.specs.Listing.{count, position}
+use Rattle.chains.specs.Rest.{pointAfter}
+use Rattle.chains.specs.Bounds.{point-at-most}
 use Rattle.chains.specs.Readers.{readers-good}
 use Rattle.chains.specs.RoundTrip.{chain-word-chain, word-reads}
-use Rattle.lent.specs.Lent.{scratchSize, Enough}
+use Rattle.lent.specs.Lent.{scratchSize, tooLittle, Enough}
+use Rattle.lent.specs.LentLaws.{scratch-little, little-scratch, little-places}
 use Rattle.words.specs.Records.{recordParts, Burned, judgedOf}
 use Rattle.words.specs.RecordLaws.{judged-sum}
 use Rattle.words.specs.Refusals.{WordRefusals, word-lifted, word-tested, RecordRefusals, record-lifted, judged-refusals}
 use Rattle.words.specs.declared.Judged.{Judged}
 use Rattle.words.specs.declared.Judged.the-variants as judged
-use Rattle.ranking.specs.Services.{Outcome, refused, gives, lent, lentScratch, answerOf, placedOf, ofWord, nextOf}
-use Rattle.ranking.specs.Services.{judgedAs, ofRecord}
-use Rattle.ranking.specs.Outcomes.{same-refusal, no-refusal, of-gives, after-refused, after-last}
+use Rattle.ranking.specs.Services.{Outcome, refused, gives, lent, lentScratch, answerOf, placedOf, atPosition}
+use Rattle.ranking.specs.Services.{ofWord, nextOf, judgedAs, ofRecord}
+use Rattle.ranking.specs.Outcomes.{same-refusal, no-refusal, standing-refused, of-gives, after-refused, after-last}
 use Rattle.ranking.specs.RoundTrips.{found-refused, placed-refused}
 use Rattle.ranking.specs.declared.Placed.the-variants as placed
 use Rattle.ranking.specs.declared.Found.the-variants as found
@@ -40,6 +44,11 @@ word-refusals w =
 pub read-word-refusals : (w : Word) (s p : List ℕ) → Enough 64 s p
     → WordRefusals w (λ r. answerOf (lent s p (ofWord w)) ≡ found.Refused r)
 read-word-refusals w s p h = word-lifted (found-refused s p h (ofWord w)) (word-refusals w)
+
+-- It is refused with 10 also when one 2^a × 3^b that it passes is 2^64 or more: the point where the letter l stands.
+pub point-over : (u : Word) (l : ℕ) (v : Word) → Good (u ++ (l ∷ v)) → 2 ^ 64 ≤ value (pointAfter origin u)
+    → ofWord (u ++ (l ∷ v)) ≡ refused 10
+point-over u l v g h = word-refusals (u ++ (l ∷ v)) .refusal-10 .1 (g, omega (arith, point-at-most u l v g))
 
 -- Where it is not refused it gives the word's chain.
 pub word-given : (w : Word) → (ofWord w ≡ gives (total (chainOf w)) (chainOf w)) ↔ (Good w × (total (chainOf w) < 2 ^ 64))
@@ -163,3 +172,55 @@ record-given l n = Iff·trans (as-judged (judgedOf l)) (judged-sum l n)
       λ e. absurd (no-refusal n (recordParts l) q (sym e)),
       λ e. let z : _≡_ {A = ℕ} 0 1 = cc in absurd (omega arith),
     )
+
+-- ---- too little is lent
+
+-- Where the outcome itself is not refused with 1: a service with places, and one that is lent a scratch alone.
+found-too-little : (s p : List ℕ) (o : Outcome) → ¬ (o ≡ refused 1)
+    → (answerOf (lent s p o) ≡ found.Refused 1) ↔ (¬ Enough 64 s p)
+unfolding answerOf lent
+found-too-little s p o n = by-sizes (decLt (length s) scratchSize) (decLt (length p) 64)
+  where
+    little : tooLittle 64 s p ≡ true → ¬ Enough 64 s p → (answerOf (lent s p o) ≡ found.Refused 1) ↔ (¬ Enough 64 s p)
+    little e m = (λ _. m, λ _. rw e refl)
+
+    by-sizes : Dec (length s < scratchSize) → Dec (length p < 64) → (answerOf (lent s p o) ≡ found.Refused 1) ↔ (¬ Enough 64 s p)
+    by-sizes (yes h) d = little (little-scratch 64 s p h) (λ (e : Enough 64 s p). omega (arith, e .numbers))
+    by-sizes (no h) (yes k) = little (little-places 64 s p k) (λ (e : Enough 64 s p). omega (arith, e .room))
+    by-sizes (no h) (no k) =
+        let e : Enough 64 s p = record { numbers = omega arith; room = omega arith } in
+        (λ f. absurd (n (found-refused s p e o 1 .0 f)), λ m. absurd (m e))
+
+placed-too-little : (s : List ℕ) (o : Outcome) → ¬ (o ≡ refused 1)
+    → (placedOf (lentScratch s o) ≡ placed.Refused 1) ↔ (length s < scratchSize)
+unfolding placedOf lentScratch
+placed-too-little s o n = by-size (decLt (length s) scratchSize)
+  where
+    by-size : Dec (length s < scratchSize) → (placedOf (lentScratch s o) ≡ placed.Refused 1) ↔ (length s < scratchSize)
+    by-size (yes h) = (λ _. h, λ _. rw (scratch-little s h) refl)
+    by-size (no h) = (λ f. absurd (n (placed-refused s (omega arith) o 1 .0 f)), λ k. absurd (h k))
+
+-- So each service is refused with 1 exactly where too little is lent.
+module _ (s p : List ℕ) where
+  pub read-word-too-little : (w : Word) → (answerOf (lent s p (ofWord w)) ≡ found.Refused 1) ↔ (¬ Enough 64 s p)
+  read-word-too-little w =
+      found-too-little s p (ofWord w)
+      (λ e. ⊎-elim (λ (f : 1 ≡ 7). omega arith) (λ (f : 1 ≡ 10). omega arith) (word-refusals w .no-other 1 e))
+
+  pub next-chain-too-little : (w : Word) → (answerOf (lent s p (nextOf (ofWord w))) ≡ found.Refused 1) ↔ (¬ Enough 64 s p)
+  next-chain-too-little w =
+      found-too-little s p (nextOf (ofWord w))
+      (λ e.
+      ⊎-elim (λ (f : 1 ≡ 7). omega arith)
+      (⊎-elim (λ (f : 1 ≡ 10). omega arith) (λ (f : 1 ≡ 11). omega arith)) (next-refusals w .no-other 1 e))
+
+  pub chain-at-too-little : (n i : ℕ) → (answerOf (lent s p (atPosition n i)) ≡ found.Refused 1) ↔ (¬ Enough 64 s p)
+  unfolding atPosition
+  chain-at-too-little n i = found-too-little s p (atPosition n i) (λ e. omega (arith, standing-refused 6 n i 1 .0 e .0))
+
+pub read-record-too-little : (l s : List ℕ) → (placedOf (lentScratch s (ofRecord l)) ≡ placed.Refused 1) ↔ (length s < scratchSize)
+read-record-too-little l s =
+    placed-too-little s (ofRecord l)
+    (λ e.
+    ⊎-elim (λ (f : 1 ≡ 8). omega arith)
+    (⊎-elim (λ (f : 1 ≡ 9). omega arith) (λ (f : 1 ≡ 10). omega arith)) (record-refusals l .no-other 1 e))

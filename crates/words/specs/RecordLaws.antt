@@ -5,21 +5,22 @@ use mathlib.Core.Path.{_≡_, refl, sym, ap, ap₂, _∙_}
 use mathlib.Core.Logic.{_↔_, Iff·and, Iff·trans}
 use mathlib.Core.Bool.{Bool, true, false, cond, _&&_, _||_, not, true≢false}
 use mathlib.Core.List.{List, [], _∷_}
-use Prim.Native.Nat.{ℕ, zero, suc, _+_, _*_, _/_, _%_, _^_, _≤_, _<_}
+use Prim.Native.Nat.{ℕ, zero, suc, _+_, _*_, _/_, _%_, _≤_, _<_}
 use native.Mathlib.Nat.{div-add-mod', mul-mod-left, mul-le-mul-right, lt-of-not-le}
 use native.Mathlib.Omega.{arith}
 use lib.Dec.{T, ltb, leb, eqb, ltb→lt, lt→ltb, eqb→eq}
 use lib.Ieee.Bits.{is-true}
 use lib.Ieee.Fits.{and-i, and-l, and-r, eq→eqb}
-use lib.ListN.{length, getD}
+use lib.ListN.{length}
 use borrow.Author.Tests.{ltb-false, leb-false, le-ltb, lt-leb}
-use Rattle.chains.specs.Chains.{Part, value, ProperMultiple, Chained, total, ChainOf}
+use Rattle.chains.specs.Chains.{Part, value, ProperMultiple, Chained, total}
 use Rattle.chains.specs.Divides.{value-pos}
 use Rattle.parts.specs.Table.{parts}
 use Rattle.parts.specs.Parts.{limit, sumAt}
 use Rattle.parts.specs.Numbers.{part-value}
 use Rattle.words.specs.Records.{recordParts, beyond, chainedTest, Burned, judgedOf}
 unfoldable pub use Rattle.words.specs.Records.{InTable}
+use Rattle.words.specs.TestLaws.{both-tests}
 use Rattle.words.specs.declared.Judged.the-variants.{Sum, Refused}
 
 -- ---- the chain condition
@@ -42,15 +43,12 @@ test-multiple x y h = (there, back)
         (lt→ltb y x (omega (arith, mul-le-mul-right y more)))
         (eq→eqb (ap (λ z. z % y) e ∙ mul-mod-left k y))
 
-both : (a b : Bool) → T (a && b) ↔ (T a × T b)
-both a b = (λ t. (and-l a b t, and-r a b t), λ t. and-i a b (t .0) (t .1))
-
 pub chained-test : (c : List Part) → T (chainedTest c) ↔ Chained c
 unfolding chainedTest
 chained-test [] = (λ _. tt, λ _. tt)
 chained-test (p ∷ []) = (λ _. tt, λ _. tt)
 chained-test (p ∷ q ∷ c) =
-    Iff·trans (both (ltb (value q) (value p) && eqb (value p % value q) 0) (chainedTest (q ∷ c)))
+    Iff·trans (both-tests (ltb (value q) (value p) && eqb (value p % value q) 0) (chainedTest (q ∷ c)))
     (Iff·and (test-multiple (value p) (value q) (value-pos q)) (chained-test (q ∷ c)))
 
 -- ---- the numbers

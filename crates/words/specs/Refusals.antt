@@ -1,7 +1,7 @@
 -- Which refusal a word and a record get, in the terms of document 01's table: each number exactly if what the table says holds and
 -- nothing before it does, and no other number.
--- In order: a word; a record. The answers are defined in Records and Conversions. Refusal 1 comes first, for too little lent: here
--- enough is lent. Ranking says the same of the services that find a chain.
+-- In order: a word; a record. The answers are defined in Records and Conversions. Ranking says the same of the services that find a
+-- chain.
 use mathlib.Core.Path.{_≡_, refl, sym}
 use mathlib.Core.Logic.{_↔_, _⊎_, inl, inr, ⊎-elim, Iff·and, Iff·not, Iff·trans}
 use mathlib.Core.Bool.{Bool, true, false, cond, _||_, not}
@@ -83,13 +83,28 @@ module _
               (one-of-both good ofGood (refusal 7) (refusal r) e);
         }
 
--- Taking a word apart.
-pub parted-refusals : (w : Word) (places : ℕ) → 64 ≤ places → WordRefusals w (λ r. partedOf w places ≡ parted.Refused r)
-unfolding partedOf
-parted-refusals w places h =
-    rw (le-ltb places 64 h)
-    (word-tested parted.Refused (λ r s e. cc) w (parted.Chain (total (chainOf w)) (length (chainOf w)))
-    (λ r e. let z : _≡_ {A = ℕ} 0 1 = cc in omega arith))
+-- Taking a word apart, where 64 places are lent; and refusal 1, exactly where fewer are.
+module _ (w : Word) (places : ℕ) where
+  by-tests : WordRefusals w (λ r.
+      cond (reads true w)
+      (cond (ltb (total (chainOf w)) (2 ^ 64)) (parted.Chain (total (chainOf w)) (length (chainOf w))) (parted.Refused 10))
+      (parted.Refused 7)
+      ≡ parted.Refused r)
+  by-tests =
+      word-tested parted.Refused (λ r s e. cc) w (parted.Chain (total (chainOf w)) (length (chainOf w)))
+      (λ r e. let z : _≡_ {A = ℕ} 0 1 = cc in omega arith)
+
+  pub parted-refusals : 64 ≤ places → WordRefusals w (λ r. partedOf w places ≡ parted.Refused r)
+  unfolding partedOf
+  parted-refusals h = rw (le-ltb places 64 h) by-tests
+
+  pub parted-too-little : (partedOf w places ≡ parted.Refused 1) ↔ (places < 64)
+  unfolding partedOf
+  parted-too-little =
+      Iff·trans
+      (is-first (ltb places 64) (parted.Refused 1) _
+      (λ e. ⊎-elim (λ (f : 1 ≡ 7). omega arith) (λ (f : 1 ≡ 10). omega arith) (by-tests .no-other 1 e)))
+      (ltb→lt places 64, lt→ltb places 64)
 
 -- ---- a record
 
@@ -222,14 +237,27 @@ module _ (l : List ℕ) where
       flat : {A B P Q R : Type 0} → A ↔ P → B ↔ (Q × R) → (A × B) ↔ (P × Q × R)
       flat f g = (λ h. (f .0 (h .0), g .0 (h .1) .0, g .0 (h .1) .1), λ h. (f .1 (h .0), g .1 (h .1, h .2)))
 
--- Writing its word.
-pub written-refusals : (l : List ℕ) (places : ℕ) → 64 ≤ places → RecordRefusals l (λ r. writtenOf l places ≡ written.Refused r)
-unfolding writtenOf lettersOf
-written-refusals l places h = record-lifted (λ r. rw (le-ltb places 64 h) (as-judged r (judgedOf l))) (judged-refusals l)
-  where
-    as-judged : (r : ℕ) (j : Judged) → (lettersOf l j ≡ written.Refused r) ↔ (j ≡ judged.Refused r)
-    as-judged r (judged.Sum n) = (
-      λ e. let z : _≡_ {A = ℕ} 0 1 = cc in absurd (omega arith),
-      λ e. let z : _≡_ {A = ℕ} 0 1 = cc in absurd (omega arith),
-    )
-    as-judged r (judged.Refused s) = (λ e. cc, λ e. cc)
+-- Writing its word, where 64 places are lent; and refusal 1, exactly where fewer are.
+module _ (l : List ℕ) (places : ℕ) where
+  as-judged : (r : ℕ) (j : Judged) → (lettersOf l j ≡ written.Refused r) ↔ (j ≡ judged.Refused r)
+  unfolding lettersOf
+  as-judged r (judged.Sum n) = (
+    λ e. let z : _≡_ {A = ℕ} 0 1 = cc in absurd (omega arith),
+    λ e. let z : _≡_ {A = ℕ} 0 1 = cc in absurd (omega arith),
+  )
+  as-judged r (judged.Refused s) = (λ e. cc, λ e. cc)
+
+  pub written-refusals : 64 ≤ places → RecordRefusals l (λ r. writtenOf l places ≡ written.Refused r)
+  unfolding writtenOf
+  written-refusals h = record-lifted (λ r. rw (le-ltb places 64 h) (as-judged r (judgedOf l))) (judged-refusals l)
+
+  pub written-too-little : (writtenOf l places ≡ written.Refused 1) ↔ (places < 64)
+  unfolding writtenOf
+  written-too-little =
+      Iff·trans
+      (is-first (ltb places 64) (written.Refused 1) (lettersOf l (judgedOf l))
+      (λ e.
+      ⊎-elim (λ (f : 1 ≡ 8). omega arith)
+      (⊎-elim (λ (f : 1 ≡ 9). omega arith) (λ (f : 1 ≡ 10). omega arith))
+      (judged-refusals l .no-other 1 (as-judged 1 (judgedOf l) .0 e))))
+      (ltb→lt places 64, lt→ltb places 64)

@@ -3,8 +3,9 @@
 -- other: reading a word and reading a record are such answers (Refusals).
 use mathlib.Core.Path.{_≡_, refl}
 use mathlib.Core.Logic.{_↔_, _⊎_, inl, inr}
-use mathlib.Core.Bool.{Bool, true, false, cond}
+use mathlib.Core.Bool.{Bool, true, false, cond, _&&_}
 use lib.Dec.{T}
+use lib.Ieee.Fits.{and-i, and-l, and-r}
 
 module _ {X : Type 0} where
   pub is-first : (a : Bool) (x y : X) → ¬ (y ≡ x) → (cond a x y ≡ x) ↔ T a
@@ -26,3 +27,7 @@ module _ {X : Type 0} where
   pub one-of-both : (a : Bool) (x y z : X) → cond a x y ≡ z → (x ≡ z) ⊎ (y ≡ z)
   one-of-both true x y z e = inl e
   one-of-both false x y z e = inr e
+
+-- Two tests of which both hold.
+pub both-tests : (a b : Bool) → T (a && b) ↔ (T a × T b)
+both-tests a b = (λ t. (and-l a b t, and-r a b t), λ t. and-i a b (t .0) (t .1))

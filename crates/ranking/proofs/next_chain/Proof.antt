@@ -23,7 +23,8 @@ returns-3 c =
     let t = q .before .before in
     let room = t .before .before in
     let bad = sym (t .before .is-good .ensures) ∙ not-true (t .before .is-good .result) (t .if3 .taken) in
-    served-refused _ _ _ _ _ _ (room .before .if1 .left) (room .if2 .left) (next-bad _ bad) (q .refuse .ensures .0) (q .refuse .ensures .1)
+    served-refused _ _ _ _ _ _ (room .before .if1 .left) (room .if2 .left) (next-bad _ bad) (q .refuse .ensures .0)
+    (q .refuse .ensures .1)
 
 returns-4 : tie.Need-returns-4
 returns-4 c =

@@ -12,20 +12,23 @@ returns c = scratch-refused _ _ (c .if1 .taken)
 part-place-word-end : tie.Need-part-place-word-end
 part-place-word-end c =
     let w = c .before .before .before .before .before in
-    let r = record-written _ _ _ _ (omega arith) (sym (w .write-word .ensures .0) ∙ c .before .before .k .given .1) (w .write-word .ensures .1) in
+    let r = record-written _ _ _ _ (omega arith) (sym (w .write-word .ensures .0) ∙ c .before .before .k .given .1)
+    (w .write-word .ensures .1) in
     omega (arith, r .room)
 
 place-word-requires : tie.Need-place-word-requires
 place-word-requires c κs =
     let w = c .before .before .before .before .before .before .before in
-    let r = record-written _ _ _ _ (omega arith) (sym (w .write-word .ensures .0) ∙ c .before .before .before .before .k .given .1) (w .write-word .ensures .1) in
+    let r = record-written _ _ _ _ (omega arith) (sym (w .write-word .ensures .0) ∙ c .before .before .before .before .k .given .1)
+    (w .write-word .ensures .1) in
     record { good = r .good; room = w .before .before .if1 .left }
 
 returns-2 : tie.Need-returns-2
 returns-2 c =
     let p = c .before .before in
     let w = p .before .before .before .before .before .before .before .before in
-    let r = record-written _ _ _ _ (omega arith) (sym (w .write-word .ensures .0) ∙ p .before .before .before .before .before .k .given .1) (w .write-word .ensures .1) in
+    let r = record-written _ _ _ _ (omega arith)
+    (sym (w .write-word .ensures .0) ∙ p .before .before .before .before .before .k .given .1) (w .write-word .ensures .1) in
     scratch-served _ _ _ _ (w .before .before .if1 .left) (p .place-word .ensures .0 ∙ r .same) (p .place-word .ensures .1)
 
 returns-3 : tie.Need-returns-3

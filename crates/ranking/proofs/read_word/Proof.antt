@@ -21,7 +21,8 @@ position-of-requires c κs =
     let room = p .before .before in
     let a = room .before .before .before .before .before .args in
     let (chain, given, size) =
-    read-chain (a .letters .now) (a .places .now) (room .if2 .left) _ (p .word-parts .ensures .0) _ _ (c .before .before .n .given .1) in
+    read-chain (a .letters .now) (a .places .now) (room .if2 .left) _ (p .word-parts .ensures .0) _ _
+    (c .before .before .n .given .1) in
     record { member = word-listed _ _ _ given; room = room .before .if1 .left }
 
 returns-3 : tie.Need-returns-3

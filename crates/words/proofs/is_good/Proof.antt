@@ -16,7 +16,8 @@ is-one true r e = rw e
 is-one false r e = rw e
 
 returns : tie.Need-returns
-returns c = is-one (reads true (c .before .before .before .args .t1 .now)) (c .after-b .result) (rw sub-self at (c .after-b .ensures))
+returns c = is-one (reads true (c .before .before .before .args .t1 .now)) (c .after-b .result)
+    (rw sub-self at (c .after-b .ensures))
 
 pub is-good-spec : {M : Type 1} → statement M
 is-good-spec = tie.close (tie.spec (λ c κs. search needs) returns)

@@ -45,13 +45,19 @@ module _ (w : Word) (entry : List ℕ) where
     module _ (good : g ≡ true) where
       over : Over ≡ weighedOf w → Told w entry (Refused 10) entry
       unfolding partedOf numbersLeft weighedOf
-      over e = told (Refused 10) entry (cc (le-ltb (length entry) 64 room, le-ltb (total (chainOf w)) (2 ^ 64) (over-is (total (chainOf w)) e))) refl
+      over e = told (Refused 10) entry
+          (cc (le-ltb (length entry) 64 room, le-ltb (total (chainOf w)) (2 ^ 64) (over-is (total (chainOf w)) e))) refl
 
       chain : (n k : ℕ) (l : List ℕ) → Number n ≡ weighedOf w → n < 2 ^ 64 → k ≡ length (chainOf w)
           → l ≡ filled 64 (map partNumber (chainOf w)) entry → Told w entry (Chain n k) l
       unfolding partedOf numbersLeft weighedOf
       chain n k l e f d =
-          told (Chain n k) l (cc (le-ltb (length entry) 64 room, number-is (total (chainOf w)) n e, lt-ltb (total (chainOf w)) (2 ^ 64) (fits w n e f)))
+          told (Chain n k) l
+          (cc (
+            le-ltb (length entry) 64 room,
+            number-is (total (chainOf w)) n e,
+            lt-ltb (total (chainOf w)) (2 ^ 64) (fits w n e f),
+          ))
 
 pub word-parts-spec : {M : Type 1} → statement M
 word-parts-spec =
@@ -60,19 +66,25 @@ word-parts-spec =
     (λ c. let s = c .before .before .before in few _ (s .args .places .now) (c .if1 .taken))
     (λ c κs. search needs)
     (λ c. let g = c .before in
-    bad _ (g .before .before .before .before .args .places .now) (g .before .if1 .left) _ (g .is-good .ensures) (not-true _ (c .if2 .taken)))
+    bad _ (g .before .before .before .before .args .places .now) (g .before .if1 .left) _ (g .is-good .ensures)
+    (not-true _ (c .if2 .taken)))
     (λ c κs. search needs)
     (λ c. search needs)
     (λ c. search needs)
     (λ c. let t = c .before .before .before in let g = t .before in
-    over _ (g .before .before .before .before .args .places .now) (g .before .if1 .left) _ (g .is-good .ensures) (not-false _ (t .if2 .left)) (sym (c .enum-told .given .1) ∙ c .before .before .weigh .ensures))
+    over _ (g .before .before .before .before .args .places .now) (g .before .if1 .left) _ (g .is-good .ensures)
+    (not-false _ (t .if2 .left)) (sym (c .enum-told .given .1) ∙ c .before .before .weigh .ensures))
     (λ c κs. let t = c .before .before .before .before in sym (t .before .is-good .ensures) ∙ not-false _ (t .if2 .left))
     (λ c κs. let t = c .before .before .before .before .before .before in (
       sym (t .before .is-good .ensures) ∙ not-false _ (t .if2 .left),
-      let a = c .before .before .before in fits _ _ (sym (a .n .given .1) ∙ a .before .before .weigh .ensures) (omega (arith, c .before .before .known-told .given)),
+      let a = c .before .before .before in
+          fits _ _ (sym (a .n .given .1) ∙ a .before .before .weigh .ensures) (omega (arith, c .before .before .known-told .given)),
       c .before .count-parts .ensures,
       omega arith,
     ))
     (λ c. search needs)
-    (λ c. let f = c .before .before in let k = f .before .before in let a = k .before .before in let t = a .before .before .before in let g = t .before in
-    chain _ (g .before .before .before .before .args .places .now) (g .before .if1 .left) _ (g .is-good .ensures) (not-false _ (t .if2 .left)) _ _ _ (sym (a .n .given .1) ∙ a .before .before .weigh .ensures) (omega (arith, k .before .known-told .given)) (k .count-parts .ensures) (f .fill-places .ensures)))
+    (λ c. let f = c .before .before in let k = f .before .before in let a = k .before .before in
+    let t = a .before .before .before in let g = t .before in
+    chain _ (g .before .before .before .before .args .places .now) (g .before .if1 .left) _ (g .is-good .ensures)
+    (not-false _ (t .if2 .left)) _ _ _ (sym (a .n .given .1) ∙ a .before .before .weigh .ensures)
+    (omega (arith, k .before .known-told .given)) (k .count-parts .ensures) (f .fill-places .ensures)))

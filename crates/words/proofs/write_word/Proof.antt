@@ -72,7 +72,8 @@ returns-3 : tie.Need-returns-3
 returns-3 c =
     let j = c .before .before .before in
     let room = j .before .before .before in
-    refused _ (room .before .before .before .args .places .now) (room .if1 .left) _ (sym (j .judge .ensures) ∙ c .before .number .given .1)
+    refused _ (room .before .before .before .args .places .now) (room .if1 .left) _
+    (sym (j .judge .ensures) ∙ c .before .number .given .1)
 
 pub write-word-spec : {M : Type 1} → statement M
 write-word-spec =

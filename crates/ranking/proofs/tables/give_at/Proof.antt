@@ -28,8 +28,13 @@ returns-2 c =
     let s = b .before .before .before in
     let places = s .args .places .now in
     let below : s .args .i < count (s .args .n) = omega (arith, s .pre .number, b .if1 .left) in (
-      below-found _ _ _ below (s .fits .n .fits) _ _ places (w .word-at .ensures) (s .pre .room) _ (p .word-parts .ensures .0) _ _ (c .before .k .given .1),
-      (p .word-parts .ensures .1 ∙ below-left _ _ _ below (s .fits .n .fits) _ _ places (w .word-at .ensures) (s .pre .room) (p .word-parts .result), d .clear .ensures),
+      below-found _ _ _ below (s .fits .n .fits) _ _ places (w .word-at .ensures) (s .pre .room) _ (p .word-parts .ensures .0) _ _
+          (c .before .k .given .1),
+      (
+        p .word-parts .ensures .1 ∙ below-left _ _ _ below (s .fits .n .fits) _ _ places (w .word-at .ensures) (s .pre .room)
+            (p .word-parts .result),
+        d .clear .ensures,
+      ),
     )
 
 returns-3 : tie.Need-returns-3
@@ -42,7 +47,8 @@ returns-3 c =
     let places = s .args .places .now in
     let below : s .args .i < count (s .args .n) = omega (arith, s .pre .number, b .if1 .left) in
     absurd
-    (below-not-refused (s .args .refusal) _ _ below (s .fits .n .fits) _ _ places (w .word-at .ensures) (s .pre .room) _ (p .word-parts .ensures .0) _ (c .before .number .given .1))
+    (below-not-refused (s .args .refusal) _ _ below (s .fits .n .fits) _ _ places (w .word-at .ensures) (s .pre .room) _
+    (p .word-parts .ensures .0) _ (c .before .number .given .1))
 
 pub give-at-spec : {M : Type 1} → statement M
 give-at-spec =

@@ -27,7 +27,8 @@ returns-2 c =
     let p = c .before .before in
     let w = p .before .before .before .before .before in
     let s = w .before .before .before in (
-      word-placed _ _ _ (s .pre .good) (sym (w .weigh .ensures) ∙ p .before .before .before .n .given .1) (p .position-of .ensures .0),
+      word-placed _ _ _ (s .pre .good) (sym (w .weigh .ensures) ∙ p .before .before .before .n .given .1)
+          (p .position-of .ensures .0),
       p .position-of .ensures .1,
     )
 

@@ -40,7 +40,8 @@ module _ (t l : List ℕ) (i : ℕ) (p : Part) (n : ℕ) (way : WayBack t l i p 
   on-the-way m e = (record { across = above .across; upward = above .upward; room = omega (arith, way .room) }, above .apart)
 
   next : WayBack t l (i + 1) q n
-  next = record { is-parts = way .is-parts; known = way .known; chained = chained .1; room = omega (arith, above .apart, way .room) }
+  next =
+      record { is-parts = way .is-parts; known = way .known; chained = chained .1; room = omega (arith, above .apart, way .room) }
 
   -- The places before and after the letters between them.
   step : (s r : List ℕ) → length s ≡ n → r ≡ between (place q) (place p) (marked (path q p)) s
@@ -49,7 +50,8 @@ module _ (t l : List ℕ) (i : ℕ) (p : Part) (n : ℕ) (way : WayBack t l i p 
   step s r m d =
       ap (λ c. walk p c (drop (place p) s)) below
       ∙ ap (λ w. walk q (recordParts (drop (i + 1) l)) w)
-      (sym (ap (λ x. drop (place q) x) d ∙ drop-between s (place q) (place p) (marked (path q p)) (omega (arith, above .apart, way .room))))
+      (sym (ap (λ x. drop (place q) x) d
+      ∙ drop-between s (place q) (place p) (marked (path q p)) (omega (arith, above .apart, way .room))))
 
 -- No part is left: from the last one to (0, 0).
 to-origin : (t l : List ℕ) (i : ℕ) (p : Part) (n m : ℕ) → WayBack t l i p n → m ≡ n → OnTheWay origin p m
@@ -79,7 +81,8 @@ loop-again c =
     let same = t .before .loop .inv .1 in (
       next _ _ _ _ _ way (t .loop-test .taken) _ (q .part-of .ensures),
       m .write-marked .kept .0 ∙ same,
-      t .before .loop .inv .2 ∙ step _ _ _ _ _ way (t .loop-test .taken) _ (q .part-of .ensures) _ _ same (m .write-marked .ensures),
+      t .before .loop .inv .2 ∙ step _ _ _ _ _ way (t .loop-test .taken) _ (q .part-of .ensures) _ _ same
+          (m .write-marked .ensures),
     )
 
 write-marked-requires : tie.Need-write-marked-requires Inv-loop μ-loop

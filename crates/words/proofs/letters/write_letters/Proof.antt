@@ -75,9 +75,11 @@ module _ (t l : List ℕ) (n : ℕ) (able : Writable t l n) (some : length l ≡
           let room = able .room in
           let here = place p in
           let one : set s here 3 ≡ between here (here + 1) (3 ∷ []) s =
-          ap (λ z. set z here 3) (between-none s here) ∙ between-more s here here [] (omega arith) (omega (arith, last)) (omega arith) 3 (omega (arith, last)) in
+          ap (λ z. set z here 3) (between-none s here)
+          ∙ between-more s here here [] (omega arith) (omega (arith, last)) (omega arith) 3 (omega (arith, last)) in
           ap (λ z. drop here z) (er ∙ ap (λ z. run (here + 1) 64 0 z) one
-          ∙ between-join s here (here + 1) (3 ∷ []) (omega arith) (omega (arith, last)) (omega arith) 64 (replicate (64 - (here + 1)) 0) (omega (arith, last)) (omega (arith, room)))
+          ∙ between-join s here (here + 1) (3 ∷ []) (omega arith) (omega (arith, last)) (omega arith) 64
+          (replicate (64 - (here + 1)) 0) (omega (arith, last)) (omega (arith, room)))
           ∙ drop-between s here 64 ((3 ∷ []) ++ replicate (64 - (here + 1)) 0) (omega (arith, last))
 
       whole : (x : List ℕ) → x ≡ walk p (recordParts (drop 1 l)) (drop (place p) r) → x ≡ filled 64 (wordOf (recordParts l)) s

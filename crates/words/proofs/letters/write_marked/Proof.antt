@@ -39,7 +39,8 @@ module _ (q p : Part) (l k : List ℕ) (way : OnTheWay q p (length l)) (h : plac
   unfolding between
   found =
       ap (λ s. getD s (place q) 0) there
-      ∙ getD-at (take (place q) l) (first .letter) (first .rest ++ drop (place p) l) 0 (place q) (length-take-le (place q) l (omega arith))
+      ∙ getD-at (take (place q) l) (first .letter) (first .rest ++ drop (place p) l) 0 (place q)
+      (length-take-le (place q) l (omega arith))
 
   written : set k (place q) (getD k (place q) 0 + 1) ≡ between (place q) (place p) (marked (path q p)) l
   unfolding marked

@@ -50,7 +50,8 @@ module _ (l : List ℕ) (i : ℕ) (h : 0 < i) (k : i < length l) (known : beyond
       let q = partAt (getD l i 0) in
       let at : suc (i - 1) ≡ i = omega arith in
       let here = drop-cons l i 0 k in
-      let two : drop (i - 1) l ≡ getD l (i - 1) 0 ∷ getD l i 0 ∷ drop (suc i) l = rw (drop-cons l (i - 1) 0 (omega arith), at, here) refl in
+      let two : drop (i - 1) l ≡ getD l (i - 1) 0 ∷ getD l i 0 ∷ drop (suc i) l =
+      rw (drop-cons l (i - 1) 0 (omega arith), at, here) refl in
       let ep = entry l (i - 1) known (omega arith) t e x ex in
       let told-here = pair x y (value p) (value q) r ep (entry l i known k t e y ey) (value-pos q) told in
       left

@@ -20,7 +20,8 @@ use Rattle.words.proofs.to_parts.fill_places.Tie as tie
 
 -- The first 64 places come back as ys.
 module _
-    (w : Word) (entry : List ℕ) (k : ℕ) (good : T (reads true w)) (fits : total (chainOf w) < 2 ^ 64) (count : k ≡ length (chainOf w))
+    (w : Word) (entry : List ℕ) (k : ℕ) (good : T (reads true w)) (fits : total (chainOf w) < 2 ^ 64)
+    (count : k ≡ length (chainOf w))
     (room : 64 ≤ length entry) (ys : List ℕ) (zeroed : ys ≡ zeros (length (midOf 0 64 entry)))
   where
     few : k ≤ 64
@@ -32,7 +33,8 @@ module _
     inside : k ≤ length (putMid 0 64 entry ys)
     inside = rw back (omega (arith, few, length-filled 64 [] entry (omega arith) room))
 
-    all : (l : List ℕ) → l ≡ map partNumber (chainOf w) ++ drop k (putMid 0 64 entry ys) → l ≡ filled 64 (map partNumber (chainOf w)) entry
+    all : (l : List ℕ) → l ≡ map partNumber (chainOf w) ++ drop k (putMid 0 64 entry ys)
+        → l ≡ filled 64 (map partNumber (chainOf w)) entry
     all l e =
         let n : k ≡ length (map partNumber (chainOf w)) = count ∙ sym (length-map (chainOf w) partNumber) in
         (rw (back, n) at e) ∙ over-zeros 64 (map partNumber (chainOf w)) entry (omega (arith, few))
@@ -49,8 +51,10 @@ fill-places-spec =
       s .pre .0,
       s .pre .1,
       s .pre .2,
-      inside _ (s .args .places .now) _ (rw (s .pre .0) tt) (s .pre .1) (s .pre .2) (s .pre .3) _ (c .before .before .before .clear-u16 .ensures),
+      inside _ (s .args .places .now) _ (rw (s .pre .0) tt) (s .pre .1) (s .pre .2) (s .pre .3) _
+          (c .before .before .before .clear-u16 .ensures),
     ))
     (λ c. search needs)
     (λ c. let f = c .before .before in let z = f .before .before .before .before in let s = z .before .before .before .before in
-    all _ (s .args .places .now) _ (rw (s .pre .0) tt) (s .pre .1) (s .pre .2) (s .pre .3) _ (z .clear-u16 .ensures) _ (f .store-numbers .ensures)))
+    all _ (s .args .places .now) _ (rw (s .pre .0) tt) (s .pre .1) (s .pre .2) (s .pre .3) _ (z .clear-u16 .ensures) _
+    (f .store-numbers .ensures)))

@@ -85,10 +85,12 @@ module _
         omega (arith, le-mul-of-pos-right (value p) (some .1), total-chainFrom p (c .met) (drop i w), ap total (c .chain))
 
     bounds : Bounds l (getD w i 0) a b left
-    bounds = omega (arith, some .0, taken (here .reader) (getD w i 0) (drop (suc i) w) (here .read) .0, part-bounds (point a b) small)
+    bounds =
+        omega (arith, some .0, taken (here .reader) (getD w i 0) (drop (suc i) w) (here .read) .0, part-bounds (point a b) small)
 
     next : (n : ℕ) → (value (point a b) < limit → n ≡ partNumber (point a b))
-        → Walk w behind size (drop (i + 1) w) (set l (left - 1) n) (a + (1 - getD w i 0 / 2)) (b + getD w i 0 / 2) (left - getD w i 0 % 2)
+        → Walk w behind size (drop (i + 1) w) (set l (left - 1) n) (a + (1 - getD w i 0 / 2)) (b + getD w i 0 / 2)
+        (left - getD w i 0 % 2)
     unfolding marks
     next n e =
         let x = getD w i 0 in
@@ -101,11 +103,13 @@ module _
           to-come = omega (arith, here .to-come);
           same = length-set l (left - 1) n ∙ here .same;
           room = omega (arith, here .room);
-          stored = store-one (x % 2) (omega arith) l left (bounds .more) (bounds .room) n (point a b) (e small) (here .met) behind (here .stored);
+          stored = store-one (x % 2) (omega arith) l left (bounds .more) (bounds .room) n (point a b) (e small) (here .met) behind
+              (here .stored);
         }
 
 -- Where no letter is left.
-all : {w : Word} {behind : List ℕ} {size : ℕ} {l : List ℕ} {a b left i : ℕ} → Walk w behind size (drop i w) l a b left → length w ≤ i
+all : {w : Word} {behind : List ℕ} {size : ℕ} {l : List ℕ} {a b left i : ℕ} → Walk w behind size (drop i w) l a b left
+    → length w ≤ i
     → l ≡ map partNumber (chainOf w) ++ behind
 unfolding marks chainFrom
 all {w} {behind} {size} {l} {a} {b} {left} {i} c h =
@@ -116,7 +120,8 @@ all {w} {behind} {size} {l} {a} {b} {left} {i} c h =
 -- ---- the function
 
 abbrev Inv-loop : tie.InvT-loop
-Inv-loop letters places₀ k a₀ b₀ left₀ i₀ places a b left i = Walk letters (drop k places₀) (length places₀) (drop i letters) places a b left
+Inv-loop letters places₀ k a₀ b₀ left₀ i₀ places a b left i =
+    Walk letters (drop k places₀) (length places₀) (drop i letters) places a b left
 
 abbrev μ-loop : tie.MeasureT-loop
 μ-loop letters places₀ k a₀ b₀ left₀ i₀ places a b left i = length letters - i
@@ -143,6 +148,7 @@ store-numbers-spec =
     (λ c. omega (arith, known (c .before .before)))
     (λ c. search needs)
     (λ c. search needs)
-    (λ c. let t = c .before .before in next (t .before .loop .inv) (t .loop-test .taken) (t .before .before .before .before .pre .1) _ (c .number-at .ensures))
+    (λ c. let t = c .before .before in
+    next (t .before .loop .inv) (t .loop-test .taken) (t .before .before .before .before .pre .1) _ (c .number-at .ensures))
     (λ c. c .before .loop .inv .same)
     (λ c. all (c .before .loop .inv) (c .loop-test .left)))

@@ -50,4 +50,5 @@ with-letter-spec =
     (λ c. by-letter 2 0 3 (λ v. omega arith) _ _ _ (c .before .match .keys3) (c .scaled3 .ensures))
     (λ c. by-letter 3 1 3 (λ v. omega arith) _ _ _ (c .before .match .keys4) (c .scaled4 .ensures))
     (λ c. by-other _ _
-    (omega (arith, c .match .rest .1, c .match .rest .0 .1, c .match .rest .0 .0 .1, c .match .rest .0 .0 .0 .1)) (c .before .fits .n .fits)))
+    (omega (arith, c .match .rest .1, c .match .rest .0 .1, c .match .rest .0 .0 .1, c .match .rest .0 .0 .0 .1))
+    (c .before .fits .n .fits)))
