@@ -1,5 +1,5 @@
 -- Choosing: what it asks, finds and leaves, and why.
-use mathlib.Core.Path.{_≡_, refl, subst, _∙_}
+use mathlib.Core.Path.{_≡_, refl, sym, subst, _∙_}
 use mathlib.Core.Bool.{true}
 use mathlib.Core.List.{List}
 use mathlib.Core.Option.{Option, none, some}
@@ -7,19 +7,20 @@ use Prim.Native.Nat.{ℕ, _+_, _*_, _/_, _%_, _^_, _≤_, _<_}
 use native.Mathlib.Omega.{arith}
 use lib.Dec.{T}
 use lib.ListN.{length, getD, take, drop}
-use borrow.Author.Tests.{lt-leb}
+use borrow.Author.Tests.{le-leb, lt-leb}
 use Rattle.lent.specs.Lent.{scratchSize}
-use Rattle.chains.specs.Chains.{ChainOf}
+use Rattle.chains.specs.Chains.{Part, ChainOf}
 use Rattle.chains.specs.Words.{Word, origin, chainFrom, chainOf, reads}
 use Rattle.chains.specs.Listing.{wordsAt}
-use Rattle.chains.specs.Best.{Prices, price, Limits}
+use Rattle.chains.specs.Best.{Prices, price, Limits, bestChain}
+use Rattle.chains.specs.BestLaws.{best-of-zero}
 use Rattle.chains.specs.Weight.{weight, total-chainOf}
 use Rattle.chains.specs.Members.{member-words}
 use Rattle.chains.specs.RoundTrip.{word-chained}
 use Rattle.chains.specs.Bounds.{parts-bound}
-use Rattle.chains.specs.Keys.{Costs, key, inGrid, bestAt, keyOr, leastKey}
-use Rattle.chains.specs.Bests.{FirstLeast, first-member, best-zero, best-found}
-use Rattle.chains.specs.BestOfAll.{costsOf, upTo, bestOf, key-price, price-fits}
+use Rattle.chains.specs.Keys.{key, inGrid, bestAt, keyOr, leastKey}
+use Rattle.chains.specs.Bests.{FirstLeast, first-member, best-found}
+use Rattle.chains.specs.BestOfAll.{costsOf, upTo, leastKeyed, key-price, price-fits, keyed-is-best}
 use Rattle.grid.specs.Grid.{RowsFilled}
 use Rattle.best.specs.declared.choosing.Choice.{Choice}
 use Rattle.best.specs.declared.choosing.Choice.the-variants as choice
@@ -37,44 +38,32 @@ pub record Used (entry exit : List ℕ) : Type 0 where
   pub same : length exit ≡ length entry
   pub later : drop scratchSize exit ≡ drop scratchSize entry
 
--- The first k letters are the best word, and its chain, within the limits, has the price.
+-- The first k letters are the word of the best chain of n, whose price is p.
 pub record WordChosen (n : ℕ) (lim : Limits) (π : Prices) (letters : List ℕ) (k p : ℕ) : Type 0 where
-  pub word : bestAt (costsOf partWeight π) (lim .A) (lim .B) true origin n ≡ some (take k letters)
-  pub parts : length (chainOf (take k letters)) ≤ lim .K
+  pub good : T (reads true (take k letters))
+  pub number : weight (take k letters) ≡ n
+  pub chain : bestChain n lim π ≡ some (chainOf (take k letters))
   pub told : p ≡ price π (chainOf (take k letters))
   pub room : k ≤ 64
 
 abbrev pub ChosenBy : ℕ → Limits → Prices → List ℕ → Choice → Type 0
 ChosenBy n lim π letters (choice.Word k p) = WordChosen n lim π letters k p
-ChosenBy n lim π letters choice.Nothing = bestOf partWeight n lim π ≡ none
+ChosenBy n lim π letters choice.Nothing = bestChain n lim π ≡ none
 
 -- By the case that was met.
 module _ (n : ℕ) (lim : Limits) (π : Prices) (letters : List ℕ) (r : Choice) (h : ChosenBy n lim π letters r) where
   pub by-word : {k p : ℕ} → r ≡ choice.Word k p → WordChosen n lim π letters k p
   by-word e = subst (ChosenBy n lim π letters) e h
 
-  pub by-nothing : r ≡ choice.Nothing → bestOf partWeight n lim π ≡ none
+  pub by-nothing : r ≡ choice.Nothing → bestChain n lim π ≡ none
   by-nothing e = subst (ChosenBy n lim π letters) e h
 
 -- ---- the number 0
 
 pub zero-chosen : (n : ℕ) (lim : Limits) (π : Prices) (letters : List ℕ) → n ≡ 0 → WordChosen n lim π letters 0 0
-unfolding chainOf chainFrom price
+unfolding reads weight chainOf chainFrom price
 zero-chosen n lim π letters e =
-    record {
-      word = rw e (best-zero (costsOf partWeight π) (lim .A) (lim .B) true origin);
-      parts = omega arith;
-      told = refl;
-      room = omega arith;
-    }
-
--- ---- the best word
-
--- The best word of n is one of its list: a good word that stands for n.
-pub best-listed : (κ : Costs) (A B n : ℕ) (w : Word) → bestAt κ A B true origin n ≡ some w → T (reads true w) × (weight w ≡ n)
-best-listed κ A B n w e =
-    let r : FirstLeast (inGrid A B origin) (key κ) (wordsAt true n) w = rw e at (best-found κ A B true origin n) in
-    member-words true n w .0 (first-member (inGrid A B origin) (key κ) r)
+    record { good = tt; number = sym e; chain = rw e (best-of-zero lim π); told = refl; room = omega arith }
 
 -- ---- the least key
 
@@ -85,21 +74,29 @@ module _ {n : ℕ} (lim : Limits) (π : Prices) (fits : n < 2 ^ 64) (cheap : Che
   abbrev leastOf : ℕ
   leastOf = leastKey noKey (costsOf partWeight π) (lim .A) (lim .B) true origin n
 
-  -- It tells the parts and the price of the best word's chain.
+  -- No price reaches what a part counts, so the word of least key is that of the best chain.
+  all-fit : (c : List Part) → ChainOf n c → price π c < partWeight
+  all-fit = price-fits n π fits (cheap .d) (cheap .t) (cheap .s)
+
+  -- The best word is one of the list of n: a good word that stands for n.
+  listed : (w : Word) → best ≡ some w → T (reads true w) × (weight w ≡ n)
+  listed w e =
+      let r : FirstLeast (inGrid (lim .A) (lim .B) origin) (key (costsOf partWeight π)) (wordsAt true n) w =
+      rw e at (best-found (costsOf partWeight π) (lim .A) (lim .B) true origin n) in
+      member-words true n w .0 (first-member (inGrid (lim .A) (lim .B) origin) (key (costsOf partWeight π)) r)
+
+  -- The least key tells the parts and the price of its chain.
   least-tells : (w : Word) → best ≡ some w
       → (leastOf ≡ partWeight * length (chainOf w) + price π (chainOf w)) × (price π (chainOf w) < partWeight)
   unfolding leastKey keyOr
   least-tells w e =
-      let r : FirstLeast (inGrid (lim .A) (lim .B) origin) (key (costsOf partWeight π)) (wordsAt true n) w =
-      rw e at (best-found (costsOf partWeight π) (lim .A) (lim .B) true origin n) in
-      let m = member-words true n w .0 (first-member (inGrid (lim .A) (lim .B) origin) (key (costsOf partWeight π)) r) in
+      let m = listed w e in
       let c : ChainOf n (chainOf w) = record { chained = word-chained w; sums = total-chainOf w ∙ m .1 } in
-      let p = price-fits n π fits (cheap .d) (cheap .t) (cheap .s) (chainOf w) c in
-      (rw e (omega (arith, key-price partWeight π w (m .0), parts-bound n 64 (chainOf w) c fits)), p)
+      (rw e (omega (arith, key-price partWeight π w (m .0), parts-bound n 64 (chainOf w) c fits, all-fit (chainOf w) c)), all-fit (chainOf w) c)
 
-  pub none-within : lim .K < leastOf / partWeight → bestOf partWeight n lim π ≡ none
-  unfolding bestOf upTo
-  none-within h = go best refl
+  pub none-within : lim .K < leastOf / partWeight → bestChain n lim π ≡ none
+  unfolding leastKeyed upTo
+  none-within h = sym (keyed-is-best partWeight n lim π all-fit) ∙ go best refl
     where
       go : (o : Option Word) → best ≡ o → upTo (lim .K) o ≡ none
       go none e = refl
@@ -107,9 +104,19 @@ module _ {n : ℕ} (lim : Limits) (π : Prices) (fits : n < 2 ^ 64) (cheap : Che
 
   pub word-within : (letters : List ℕ) (k : ℕ) → best ≡ some (take k letters) → k ≤ 64 → leastOf / partWeight ≤ lim .K
       → WordChosen n lim π letters k (leastOf % partWeight)
+  unfolding leastKeyed upTo
   word-within letters k e room h =
       let t = least-tells (take k letters) e in
-      record { word = e; parts = omega arith; told = omega arith; room = room }
+      let m = listed (take k letters) e in
+      record {
+        good = m .0;
+        number = m .1;
+        chain =
+            sym (keyed-is-best partWeight n lim π all-fit)
+            ∙ rw (e, le-leb (length (chainOf (take k letters))) (lim .K) (omega arith));
+        told = omega arith;
+        room = room;
+      }
 
 -- ---- with the table in the scratch
 
@@ -141,7 +148,7 @@ module _ {costs : List ℕ} {n : ℕ} {lim : Limits} {π : Prices} {entry letter
     pub filled-used : Used entry l
     filled-used = record { same = f .same; later = f .later }
 
-    pub filled-none : lim .K < getD l 0 0 / partWeight → bestOf partWeight n lim π ≡ none
+    pub filled-none : lim .K < getD l 0 0 / partWeight → bestChain n lim π ≡ none
     filled-none h = none-within lim π (b .fits) (b .cheap) (rw key-is at h)
 
     module _ (h : getD l 0 0 / partWeight ≤ lim .K) where

@@ -4,12 +4,11 @@
 -- Definitions only. That the outcome is the best chain of demand 3 is in Demand3.
 use mathlib.Core.List.{List}
 use mathlib.Core.Option.{Option, none, some}
-use Prim.Native.Nat.{ℕ, _^_}
+use Prim.Native.Nat.{ℕ}
 use lib.ListN.{length}
 use Rattle.chains.specs.Chains.{Part}
 use Rattle.chains.specs.Listing.{position}
-use Rattle.chains.specs.Best.{Prices, price, Limits}
-use Rattle.chains.specs.BestOfAll.{bestOf}
+use Rattle.chains.specs.Best.{Prices, price, Limits, bestChain}
 use Rattle.ranking.specs.Services.{Outcome, refused, gives}
 use Rattle.best.specs.declared.Chosen.{Chosen}
 use Rattle.best.specs.declared.Chosen.the-variants.{Chain, Refused}
@@ -26,9 +25,9 @@ unfoldable pub orNone : ℕ → Option (List Part) → Outcome
 orNone n none = refused 5
 orNone n (some c) = gives n c
 
--- The best chain of n within the limits. A price is below 2^32, so fewer parts come before a lower price.
+-- The best chain of n within the limits.
 unfoldable pub bestOutcome : ℕ → Limits → Prices → Outcome
-bestOutcome n lim π = orNone n (bestOf (2 ^ 32) n lim π)
+bestOutcome n lim π = orNone n (bestChain n lim π)
 
 -- The position, how many parts and the price, or the refusal.
 unfoldable pub chosenOf : Prices → Outcome → Chosen

@@ -15,19 +15,14 @@ use lib.Pow.{pow-mono, pow-pos}
 use Rattle.lent.specs.Lent.{Enough}
 use Rattle.chains.specs.Chains.{Part, value, ChainOf}
 use Rattle.chains.specs.Listing.{position}
-use Rattle.chains.specs.Best.{Prices, price, Limits, Within, IsBest}
+use Rattle.chains.specs.Best.{Prices, price, Limits, Within, NoneFits, IsBest, bestChain}
+use Rattle.chains.specs.BestLaws.{best-unique, best-chain, best-none, best-of-zero}
 use Rattle.chains.specs.Bounds.{part-at-most, parts-bound}
-use Rattle.chains.specs.BestOfAll.{bestOf, price-fits, best-of-zero, best-unique, none-fits, best-is-best}
 use Rattle.ranking.specs.Services.{Outcome, refused, gives, lent}
 use Rattle.best.specs.declared.Chosen.{Chosen}
 use Rattle.best.specs.declared.Chosen.the-variants.{Chain, Refused}
 use Rattle.ranking.specs.RoundTrips.{lent-all}
 use Rattle.best.specs.Chosen.{orNone, bestOutcome, chosenOf}
-use Rattle.best.specs.KeyTable.{Cheap}
-
--- No chain of n is within the limits.
-abbrev pub NoneFits : ℕ → Limits → Type 0
-NoneFits n lim = (c : List Part) → ChainOf n c → Within lim c → ⊥
 
 -- The best chain, whose position, number of parts and price are told.
 pub record BestTold (n : ℕ) (lim : Limits) (π : Prices) (i k p : ℕ) : Type 0 where
@@ -42,13 +37,9 @@ abbrev pub Meets : ℕ → Limits → Prices → Chosen → Type 0
 Meets n lim π (Chain i k p) = BestTold n lim π i k p
 Meets n lim π (Refused r) = (r ≡ 5) × NoneFits n lim
 
--- ---- a number of 64 bits, prices of 16
+-- ---- the outcome
 
-module _ {n : ℕ} (lim : Limits) {π : Prices} (fits : n < 2 ^ 64) (cheap : Cheap π) where
-  -- No price reaches 2^32.
-  low : (c : List Part) → ChainOf n c → price π c < 2 ^ 32
-  low = price-fits n π fits (cheap .d) (cheap .t) (cheap .s)
-
+module _ (n : ℕ) (lim : Limits) (π : Prices) where
   -- The outcome is one of two.
   data Told : Outcome → Type 0 where
     fitting : (c : List Part) → IsBest n lim π c → Told (gives n c)
@@ -56,11 +47,11 @@ module _ {n : ℕ} (lim : Limits) {π : Prices} (fits : n < 2 ^ 64) (cheap : Che
 
   told : Told (bestOutcome n lim π)
   unfolding bestOutcome orNone
-  told = go (bestOf (2 ^ 32) n lim π) refl
+  told = go (bestChain n lim π) refl
     where
-      go : (o : Option (List Part)) → bestOf (2 ^ 32) n lim π ≡ o → Told (orNone n o)
-      go none e = nothing (none-fits (2 ^ 32) n lim π low e)
-      go (some c) e = fitting c (best-is-best (2 ^ 32) n lim π low c e)
+      go : (o : Option (List Part)) → bestChain n lim π ≡ o → Told (orNone n o)
+      go none e = nothing (best-none n lim π .0 e)
+      go (some c) e = fitting c (best-chain n lim π c .0 e)
 
   -- It gives the best chain of n within the limits, and no other;
   pub given-is-best : (c : List Part) → (bestOutcome n lim π ≡ gives n c) ↔ IsBest n lim π c
@@ -100,7 +91,7 @@ module _ {n : ℕ} (lim : Limits) {π : Prices} (fits : n < 2 ^ 64) (cheap : Che
 -- The empty chain, whatever the limits and the prices.
 pub zero-given : (lim : Limits) (π : Prices) → bestOutcome 0 lim π ≡ gives 0 []
 unfolding bestOutcome orNone
-zero-given lim π = rw (best-of-zero (2 ^ 32) lim π)
+zero-given lim π = rw (best-of-zero lim π)
 
 -- ---- limits above 64, 63 and 40 exclude nothing
 
@@ -126,14 +117,14 @@ module _ {n : ℕ} (fits : n < 2 ^ 64) where
       let l = chain-low p c h in
       (λ w. (omega arith, omega arith, omega arith), λ w. (omega arith, omega arith, omega arith))
 
-  pub limits-cut : (lim : Limits) {π : Prices} → Cheap π
+  pub limits-cut : (lim : Limits) (π : Prices)
       → bestOutcome n lim π ≡ bestOutcome n (record { K = min (lim .K) 64; A = min (lim .A) 63; B = min (lim .B) 40 }) π
-  limits-cut lim {π} cheap = go (bestOutcome n lim π) (told lim fits cheap)
+  limits-cut lim π = go (bestOutcome n lim π) (told n lim π)
     where
-      go : (o : Outcome) → Told lim fits cheap o → o ≡ bestOutcome n (cut lim) π
-      go o (fitting c b) = sym (given-is-best (cut lim) fits cheap c .1 (record {
+      go : (o : Outcome) → Told n lim π o → o ≡ bestOutcome n (cut lim) π
+      go o (fitting c b) = sym (given-is-best n (cut lim) π c .1 (record {
         chain = b .chain;
         within = within-cut lim c (b .chain) .0 (b .within);
         best = λ c′ h w d. b .best c′ h (within-cut lim c′ h .1 w) d;
       }))
-      go o (nothing f) = sym (refused-none (cut lim) fits cheap .1 (λ c h w. f c h (within-cut lim c h .1 w)))
+      go o (nothing f) = sym (refused-none n (cut lim) π .1 (λ c h w. f c h (within-cut lim c h .1 w)))

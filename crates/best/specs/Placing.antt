@@ -6,16 +6,15 @@ use mathlib.Core.Path.{_≡_, refl, _∙_}
 use mathlib.Core.Bool.{true}
 use mathlib.Core.List.{List, []}
 use mathlib.Core.Option.{none}
-use Prim.Native.Nat.{ℕ, _^_, _≤_, _<_}
+use Prim.Native.Nat.{ℕ, _^_, _<_}
 use native.Mathlib.Omega.{arith}
-use borrow.Author.Tests.{lt-ltb, le-ltb, le-leb}
+use borrow.Author.Tests.{lt-ltb}
 use borrow.Rule.Slice.PartMut.{midOf, putMid}
 use lib.Ieee.Bits.{is-true}
 use lib.ListN.{length, take}
 use Rattle.lent.specs.LentLaws.{cleared, enough, left-zeroed}
 use Rattle.chains.specs.Words.{chainOf, reads}
-use Rattle.chains.specs.Best.{Prices, Limits}
-use Rattle.chains.specs.BestOfAll.{costsOf, upTo, bestOf}
+use Rattle.chains.specs.Best.{Prices, Limits, bestChain}
 use Rattle.lent.specs.Lent.{zeros, filled, scratchSize, scratchLeft, tooLittle, Enough}
 use Rattle.ranking.specs.Services.{Outcome, gives, lent, answerOf, placesLeft, ofWord}
 use Rattle.ranking.specs.RoundTrips.{lent-all}
@@ -24,8 +23,7 @@ use Rattle.ranking.specs.declared.Found.the-variants as found
 use Rattle.best.specs.declared.Chosen.{Chosen}
 use Rattle.best.specs.declared.Chosen.the-variants.{Chain, Refused}
 use Rattle.best.specs.Chosen.{orNone, bestOutcome, chosenOf}
-use Rattle.best.specs.KeyTable.{partWeight}
-use Rattle.best.specs.Choosing.{Used, WordChosen, best-listed}
+use Rattle.best.specs.Choosing.{Used, WordChosen}
 
 -- What was found, with a price.
 unfoldable pub pricedOf : ℕ → Found → Chosen
@@ -51,7 +49,7 @@ scratch-zeroed s p h = left-zeroed (tooLittle 64 s p) s (enough 64 s p h)
 module _ (π : Prices) (n : ℕ) (lim : Limits) {s p : List ℕ} (h : Enough 64 s p) where
   -- ---- no word
 
-  pub none-served : {l ys : List ℕ} → Used s l → bestOf partWeight n lim π ≡ none → ys ≡ zeros (length (midOf 0 scratchSize l))
+  pub none-served : {l ys : List ℕ} → Used s l → bestChain n lim π ≡ none → ys ≡ zeros (length (midOf 0 scratchSize l))
       → Served π (bestOutcome n lim π) s p (Refused 5) p (putMid 0 scratchSize l ys)
   unfolding bestOutcome orNone chosenOf placesLeft
   none-served {l} {ys} u e z =
@@ -63,13 +61,11 @@ module _ (π : Prices) (n : ℕ) (lim : Limits) {s p : List ℕ} (h : Enough 64 
   module _ {letters : List ℕ} {k told : ℕ} (fits : n < 2 ^ 64) (w : WordChosen n lim π letters k told) where
     read : ofWord (take k letters) ≡ gives n (chainOf (take k letters))
     unfolding ofWord
-    read =
-        let m = best-listed (costsOf partWeight π) (lim .A) (lim .B) n (take k letters) (w .word) in
-        rw (is-true (reads true (take k letters)) (m .0), m .1, lt-ltb n (2 ^ 64) fits)
+    read = rw (is-true (reads true (take k letters)) (w .good), w .number, lt-ltb n (2 ^ 64) fits)
 
     best : bestOutcome n lim π ≡ gives n (chainOf (take k letters))
-    unfolding bestOutcome orNone bestOf upTo
-    best = rw (w .word, le-leb (length (chainOf (take k letters))) (lim .K) (w .parts))
+    unfolding bestOutcome orNone
+    best = rw (w .chain)
 
     pub word-served : {l p′ s′ : List ℕ} {r : Chosen} → Used s l
         → r ≡ pricedOf told (answerOf (lent l p (ofWord (take k letters))))
