@@ -19,7 +19,7 @@ use Rattle.chains.specs.Chains.{Part}
 use Rattle.chains.specs.Words.{Word, origin, right, up}
 use Rattle.chains.specs.Members.{rises}
 use Rattle.chains.specs.Keys.{inside, bestAt}
-use Rattle.chains.specs.Bests.{lead, keyA, keyB, best-one, least-step, take-a, take-b, least-told}
+use Rattle.chains.specs.Bests.{lead, keyA, keyB, third-left, best-one, least-step, take-a, take-b, least-told}
 use Rattle.grid.specs.Grid.{Table}
 use Rattle.grid.specs.Rests.{below-last-row, restAt, rest-origin, rest-right, rest-up, point-low}
 use Rattle.grid.specs.Fill.{read-free, read-after-a}
@@ -113,14 +113,7 @@ cond-word : (i : Bool) (o : Option Word) (w : Word) → cond i o none ≡ some w
 cond-word true o w e = (tt, e)
 cond-word false o w e = absurd (Option·none-ne-some w e)
 
--- Where b rises the remainder by three is 0 or 1.
-rises-low : (f : Bool) (r : ℕ) → T (rises f r) → r ≤ 1
-unfolding rises
-rises-low f zero t = omega arith
-rises-low f (suc zero) t = omega arith
-rises-low f (suc (suc r)) t = absurd t
-
--- Its key is no less than the one above.
+-- Where b rises its key is no less than the one above.
 third-above : (costs : List ℕ) (f : Bool) (r above : ℕ) → T (rises f r) → above ≤ thirdKey costs f r above
 third-above costs f r above h = go (rises f r) h
   where
@@ -288,15 +281,15 @@ module _
           (drop (a + b) (bestWord costs A B n))
           (sym taken ∙ w .follows)
 
-      third-left : 1 ≤ rest / 3
-      third-left = some-above (rises-low free (rest % 3) (raised .0))
+      some-third : 1 ≤ rest / 3
+      some-third = third-left free rest (s .more) (raised .0)
 
       pub step-b : KeyRisen costs A B n a b (2 + rest % 3) a (b + 1) true (rest / 3)
       step-b =
           let third-more = third-above costs free (rest % 3) above (raised .0) in
           risen (2 + rest % 3) true a (b + 1) (rest / 3) (rw add-one (raised .1)) (omega arith) (rw (rest-up, s .walked .here))
-          third-left
-          (rw add-one (omega (arith, above-is third-left, least-is, s .walked .low)))
+          some-third
+          (rw add-one (omega (arith, above-is some-third, least-is, s .walked .low)))
 
 -- ---- writing
 
