@@ -10,15 +10,17 @@ use Rattle.chains.specs.Chains.{Part}
 use Rattle.chains.specs.Listing.{position}
 use Rattle.chains.specs.Best.{Prices, price, Limits, bestChain}
 use Rattle.ranking.specs.Services.{Outcome, refused, gives}
+use Rattle.best.specs.declared.Limits as given
+use Rattle.best.specs.declared.Prices as asked
 use Rattle.best.specs.declared.Chosen.{Chosen}
 use Rattle.best.specs.declared.Chosen.the-variants.{Chain, Refused}
 
--- What a line asks with.
-abbrev pub pricesOf : ℕ → ℕ → ℕ → Prices
-pricesOf d t s = record { d = d; t = t; s = s }
+-- What the code's structs stand for.
+abbrev pub limitsOf : given.Limits → Limits
+limitsOf l = record { K = l .parts; A = l .doublings; B = l .triplings }
 
-abbrev pub limitsOf : ℕ → ℕ → ℕ → Limits
-limitsOf K A B = record { K = K; A = A; B = B }
+abbrev pub pricesOf : asked.Prices → Prices
+pricesOf p = record { d = p .doubling; t = p .tripling; s = p .addition }
 
 -- A chain of n, if there is one, and else refusal 5.
 unfoldable pub orNone : ℕ → Option (List Part) → Outcome

@@ -23,7 +23,7 @@ returns-3 c =
     let b = h .before .before .before in
     let s = b .before .before .before .before in
     let a = s .args in
-    word-served (pricesOf (a .d) (a .t) (a .s)) (a .n) (limitsOf (a .parts-limit) (a .a-limit) (a .b-limit))
+    word-served (pricesOf (a .prices)) (a .n) (limitsOf (a .limits))
     (record { numbers = b .before .if1 .left; room = b .if2 .left })
     (s .fits .n .fits)
     (by-word _ _ _ _ _ (h .choose .ensures .0) (m .length .given .1))
@@ -38,7 +38,7 @@ returns-4 c =
     let h = m .before .before .before .before .before in
     let b = h .before .before .before in
     let a = b .before .before .before .before .args in
-    none-served (pricesOf (a .d) (a .t) (a .s)) (a .n) (limitsOf (a .parts-limit) (a .a-limit) (a .b-limit))
+    none-served (pricesOf (a .prices)) (a .n) (limitsOf (a .limits))
     (record { numbers = b .before .if1 .left; room = b .if2 .left })
     (h .choose .ensures .1)
     (by-nothing _ _ _ _ _ (h .choose .ensures .0) (m .enum-told .given .1))
