@@ -12,4 +12,5 @@ pub mod KeyRows
 pub mod Walk
 pub mod Choosing
 pub mod Placing
+pub mod PlacingLaws
 pub mod Demand3

@@ -5,7 +5,7 @@ use borrow.Author.Needs.{needs}
 use Rattle.best.specs.Chosen.{limitsOf, pricesOf}
 use Rattle.best.specs.Choosing.{by-word, by-nothing}
 use Rattle.lent.specs.LentLaws.{little-scratch, little-places}
-use Rattle.best.specs.Placing.{little, none-served, word-served}
+use Rattle.best.specs.PlacingLaws.{little, none-served, place-asked, word-served}
 use Rattle.best.proofs.best_chain.Statement.{statement}
 use Rattle.best.proofs.best_chain.Tie as tie
 
@@ -14,6 +14,20 @@ part-place-end c =
     let m = c .before .before in
     let h = m .before .before .before .before .before in
     omega (arith, by-word _ _ _ _ _ (h .choose .ensures .0) (m .length .given .1) .room)
+
+place-requires : tie.Need-place-requires
+place-requires c κs =
+    let m = c .before .before .before .before .before in
+    let h = m .before .before .before .before .before in
+    let b = h .before .before .before in
+    let s = b .before .before .before .before in
+    let a = s .args in
+    rw sub-zero
+    (place-asked (pricesOf (a .prices)) (a .n) (limitsOf (a .limits))
+    (record { numbers = b .before .if1 .left; room = b .if2 .left })
+    (by-word _ _ _ _ _ (h .choose .ensures .0) (m .length .given .1))
+    (h .choose .ensures .1)
+    (s .fits .n .fits))
 
 returns-3 : tie.Need-returns-3
 returns-3 c =
@@ -25,7 +39,6 @@ returns-3 c =
     let a = s .args in
     word-served (pricesOf (a .prices)) (a .n) (limitsOf (a .limits))
     (record { numbers = b .before .if1 .left; room = b .if2 .left })
-    (s .fits .n .fits)
     (by-word _ _ _ _ _ (h .choose .ensures .0) (m .length .given .1))
     (h .choose .ensures .1)
     (rw sub-zero at (p .place .ensures .0))
@@ -56,7 +69,7 @@ best-chain-spec =
     (λ c. search needs)
     (λ c. search needs)
     part-place-end
-    (λ c κs. search needs)
+    place-requires
     (λ c. search needs)
     (λ c. search needs)
     (λ c. search needs)
