@@ -2,7 +2,7 @@
 --
 -- In this order: reading a word that may be placed gives its chain; what holds at each return of the best chain; too little is
 -- lent, and enough; no word, and the chosen word.
-use mathlib.Core.Path.{_≡_, refl, sym, ap, _∙_}
+use mathlib.Core.Path.{_≡_, refl, ap, _∙_}
 use mathlib.Core.Bool.{true}
 use mathlib.Core.List.{List, [], map}
 use mathlib.Core.Option.{none}

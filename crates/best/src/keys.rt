@@ -162,7 +162,8 @@ pub fn fill_rows(
     triplings: usize,
 )
     requires { ⌜ RowsOfKeys (now costs) b m (now scratch) ⌝ }
-    ensures { λ _. ⌜ RowsFilled (keyCell (now (costs .entry)) doublings triplings) b m (now (scratch .entry)) (now (scratch .exit)) ⌝ }
+    ensures { λ _. ⌜ RowsFilled (keyCell (now (costs .entry)) doublings triplings) b m
+        (now (scratch .entry)) (now (scratch .exit)) ⌝ }
 {
     let rests = grid::row_rests(m);
     let mut i = 41;

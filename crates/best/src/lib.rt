@@ -50,7 +50,8 @@ pub fn best_chain(
         ≡ placesLeft
         (lent (now (scratch .entry)) (now (places .entry)) (bestOutcome n (limitsOf limits) (pricesOf prices)))
         (now (places .entry)) ⌝ }
-    ensures scratch { λ _. ⌜ now (scratch .exit) ≡ scratchLeft (tooLittle 64 (now (scratch .entry)) (now (places .entry))) (now (scratch .entry)) ⌝ }
+    ensures scratch { λ _. ⌜ now (scratch .exit)
+        ≡ scratchLeft (tooLittle 64 (now (scratch .entry)) (now (places .entry))) (now (scratch .entry)) ⌝ }
 {
     if scratch.len() < lent::SCRATCH {
         return Chosen::Refused(1);

@@ -13,7 +13,8 @@ ghost use Rattle.best.specs.Placing.{PlacingAsked, placedOf};
 pub fn place(letters: &[u8], price: u64, scratch: &mut [u64], places: &mut [u16]) -> Chosen
     requires { ⌜ PlacingAsked (now letters) (now scratch) (now places) ⌝ }
     ensures answer { λ r. ⌜ r ≡ placedOf (now (letters .entry)) price ⌝ }
-    ensures places { λ _. ⌜ now (places .exit) ≡ filled 64 (map partNumber (chainOf (now (letters .entry)))) (now (places .entry)) ⌝ }
+    ensures places { λ _. ⌜ now (places .exit)
+        ≡ filled 64 (map partNumber (chainOf (now (letters .entry)))) (now (places .entry)) ⌝ }
     ensures scratch { λ _. ⌜ now (scratch .exit) ≡ filled scratchSize [] (now (scratch .entry)) ⌝ }
 {
     match ranking::read_word(letters, scratch, places) {

@@ -1,7 +1,8 @@
 -- Price, limits and the best chain: document 01, 'Parts and chains' and 'Services and memory'; demand 3.
 --
 -- In this order: prices and limits; what makes a chain the best (`IsBest`); the best chain as a function (`bestChain`).
--- Definitions only. That `bestChain` gives the chain that is best, and none exactly where none is within the limits, is in BestLaws.
+-- Definitions only. That `bestChain` gives the chain that is best, and none exactly where none is within the limits, is in
+-- BestLaws.
 use mathlib.Core.Path.{_≡_}
 use mathlib.Core.Logic.{_⊎_, _≢_}
 use mathlib.Core.Bool.{Bool, true, cond, _&&_, _||_}

@@ -183,7 +183,11 @@ module _ (π : Prices) where
         λ v m q. ⊎-elim (λ (e : v ≡ x). n (rw e at q)) (λ (k : List·Memᴰ v ws). h v k q) (List·Memᴰ·cases-cons m)
     skipped x ws (some c) n (w, e, f) = (w, e, tail-first x w ws (λ p. absurd (n p)) f)
 
-    taken : (x : Word) (ws : List Word) (o : Option (List Part)) → fits x → ((v : Word) → List·Memᴰ v ws → T (before x v)) → Told ws o
+    taken :
+        (x : Word) (ws : List Word) (o : Option (List Part))
+        → fits x
+        → ((v : Word) → List·Memᴰ v ws → T (before x v))
+        → Told ws o
         → Told (x ∷ ws) (sooner π (chainOf x) o)
     unfolding sooner
     taken x ws none p a h = (x, refl, head-first x ws p (λ v m q. absurd (h v m q)))

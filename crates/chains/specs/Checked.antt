@@ -102,9 +102,9 @@ module _ {A : Type 0} where
 
 -- ---- the test of an entry
 
--- The word's chain has k parts and is within the limits; it has at least k.
-exactly : ℕ → Word → Bool
-exactly k w = eqb (length (chainOf w)) k && isWithin free (chainOf w)
+-- The word's chain has k parts and is within the limits, has at least k.
+has : ℕ → Word → Bool
+has k w = eqb (length (chainOf w)) k && isWithin free (chainOf w)
 
 atLeast : ℕ → Word → Bool
 atLeast k w = leb k (length (chainOf w))
@@ -112,7 +112,7 @@ atLeast k w = leb k (length (chainOf w))
 test : Entry → Bool
 test (chains n k) = eqb (count n) k
 test (words n l) = same (same eqb) (listOf n) l
-test (best n k) = any (exactly k) (listOf n) && every (atLeast k) (listOf n)
+test (best n k) = any (has k) (listOf n) && every (atLeast k) (listOf n)
 
 -- Where a chain within the limits has k parts and no chain has fewer, the best has k.
 best-has :
@@ -123,13 +123,13 @@ best-has :
     → ((c′ : List Part) → ChainOf n c′ → k ≤ length c′)
     → (c′ : List Part) × IsBest n free π c′ × (length c′ ≡ k)
 unfolding Better
-best-has n k π c h w e least = go (bestChain n free π) (answers n free π)
+best-has n k π c h w e fewest = go (bestChain n free π) (answers n free π)
   where
     parts : (c′ : List Part) → IsBest n free π c′ → Dec (length c′ ≡ k) → length c′ ≡ k
     parts c′ b (yes d) = d
     parts c′ b (no d) =
         ⊎-elim
-        (λ (l : length c′ < length c). absurd (omega (arith, least c′ (b .chain))))
+        (λ (l : length c′ < length c). absurd (omega (arith, fewest c′ (b .chain))))
         (λ (l : (length c′ ≡ length c) × ((price π c′ < price π c) ⊎ ((price π c′ ≡ price π c) × (position n c′ < position n c)))).
         l .0 ∙ e)
         (b .best c h w (λ (q : c ≡ c′). d (sym (ap length q) ∙ e)))
@@ -139,13 +139,13 @@ best-has n k π c h w e least = go (bestChain n free π) (answers n free π)
     go (some c′) b = (c′, b, parts c′ b (ℕ-discrete (length c′) k))
 
 sound : (e : Entry) → T (test e) → Holds e
-unfolding test Holds exactly atLeast
+unfolding test Holds has atLeast
 sound (chains n k) t = eqb→eq (count n) k t
 sound (words n l) t = same-eq (same eqb) (same-eq eqb eqb→eq) (listOf n) l t
 sound (best n k) t =
-    let one = any (exactly k) (listOf n) in
+    let one = any (has k) (listOf n) in
     let all = every (atLeast k) (listOf n) in
-    let (w, m, e) = any-at (exactly k) (listOf n) (and-l one all t) in
+    let (w, m, e) = any-at (has k) (listOf n) (and-l one all t) in
     let size = eqb (length (chainOf w)) k in
     λ π.
     best-has n k π (chainOf w)
@@ -159,5 +159,5 @@ sound (best n k) t =
 
 -- Every entry of the table holds.
 pub checked : (e : Entry) → List·Memᴰ e table → Holds e
-unfolding table test exactly atLeast isWithin free every any same count listOf wordsAt wordsIn atRest byThird chainOf chainFrom right up
+unfolding table test has atLeast isWithin free every any same count listOf wordsAt wordsIn atRest byThird chainOf chainFrom right up
 checked e m = sound e (every-at test table tt e m)

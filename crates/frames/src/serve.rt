@@ -41,12 +41,15 @@ pub fn serve_count(line: &[u8], scratch: &mut [u64], out: &mut [u8]) -> Replied
 fn best_in(n: u64, line: &[u8], scratch: &mut [u64], places: &mut [u16]) -> Chosen
     ensures { λ r. ⌜ r
         ≡ chosenOf (pricesIn (now (line .entry)))
-        (lent (now (scratch .entry)) (now (places .entry)) (bestOutcome n (limitsIn (now (line .entry))) (pricesIn (now (line .entry))))) ⌝ }
+        (lent (now (scratch .entry)) (now (places .entry))
+        (bestOutcome n (limitsIn (now (line .entry))) (pricesIn (now (line .entry))))) ⌝ }
     ensures { λ _. ⌜ now (places .exit)
         ≡ placesLeft
-        (lent (now (scratch .entry)) (now (places .entry)) (bestOutcome n (limitsIn (now (line .entry))) (pricesIn (now (line .entry)))))
+        (lent (now (scratch .entry)) (now (places .entry))
+        (bestOutcome n (limitsIn (now (line .entry))) (pricesIn (now (line .entry)))))
         (now (places .entry)) ⌝ }
-    ensures { λ _. ⌜ now (scratch .exit) ≡ scratchLeft (tooLittle 64 (now (scratch .entry)) (now (places .entry))) (now (scratch .entry)) ⌝ }
+    ensures { λ _. ⌜ now (scratch .exit)
+        ≡ scratchLeft (tooLittle 64 (now (scratch .entry)) (now (places .entry))) (now (scratch .entry)) ⌝ }
 {
     let limits = Limits {
         parts: lines::byte_of(line, 9),

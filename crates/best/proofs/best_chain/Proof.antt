@@ -3,7 +3,7 @@ use native.Mathlib.Nat.{sub-zero}
 use native.Mathlib.Omega.{arith}
 use borrow.Author.Needs.{needs}
 use Rattle.best.specs.Chosen.{limitsOf, pricesOf}
-use Rattle.best.specs.Choosing.{by-word, by-nothing}
+use Rattle.best.specs.ChoosingLaws.{by-word, by-nothing}
 use Rattle.lent.specs.LentLaws.{little-scratch, little-places}
 use Rattle.best.specs.PlacingLaws.{little, none-served, place-asked, word-served}
 use Rattle.best.proofs.best_chain.Statement.{statement}

@@ -1,10 +1,10 @@
--- `choose` finds the best word within the limits: the first number of the table tells its parts and its price, and the walk along the
--- table writes it.
+-- `choose` finds the word of the best chain within the limits: the first number of the table tells its parts and its price, and the
+-- walk along the table writes it.
 use mathlib.Core.Path.{refl}
 use native.Mathlib.Omega.{arith}
 use borrow.Author.Needs.{needs}
 use Rattle.best.specs.Chosen.{limitsOf, pricesOf}
-use Rattle.best.specs.Choosing.{Begun, zero-chosen, fill-asked, filled-used, filled-none, write-asked, filled-word}
+use Rattle.best.specs.ChoosingLaws.{Begun, zero-chosen, fill-asked, filled-used, filled-none, write-asked, filled-word}
 use Rattle.best.proofs.choosing.choose.Statement.{statement}
 use Rattle.best.proofs.choosing.choose.Tie as tie
 
