@@ -1,31 +1,17 @@
--- Choosing: what it asks, finds and leaves, and why.
-use mathlib.Core.Path.{_≡_, refl, subst, _∙_}
+-- Choosing: what it asks, finds and leaves. Definitions only; why it finds that is in ChoosingLaws.
+use mathlib.Core.Path.{_≡_}
 use mathlib.Core.Bool.{true}
 use mathlib.Core.List.{List}
-use mathlib.Core.Option.{Option, none, some}
-use Prim.Native.Nat.{ℕ, _+_, _*_, _/_, _%_, _^_, _≤_, _<_}
-use native.Mathlib.Omega.{arith}
+use mathlib.Core.Option.{none, some}
+use Prim.Native.Nat.{ℕ, _≤_}
 use lib.Dec.{T}
-use lib.ListN.{length, getD, take, drop}
-use borrow.Author.Tests.{lt-leb}
+use lib.ListN.{length, take, drop}
 use Rattle.lent.specs.Lent.{scratchSize}
-use Rattle.chains.specs.Chains.{ChainOf}
-use Rattle.chains.specs.Words.{Word, origin, chainFrom, chainOf, reads}
-use Rattle.chains.specs.Listing.{wordsAt}
-use Rattle.chains.specs.Best.{Prices, price, Limits}
-use Rattle.chains.specs.Weight.{weight, total-chainOf}
-use Rattle.chains.specs.Members.{member-words}
-use Rattle.chains.specs.RoundTrip.{word-chained}
-use Rattle.chains.specs.Bounds.{parts-bound}
-use Rattle.chains.specs.Keys.{Costs, key, inGrid, bestAt, keyOr, leastKey}
-use Rattle.chains.specs.Bests.{FirstLeast, first-member, best-zero, best-found}
-use Rattle.chains.specs.BestOfAll.{costsOf, upTo, bestOf, key-price, price-fits}
-use Rattle.grid.specs.Grid.{RowsFilled}
+use Rattle.chains.specs.Chains.{total}
+use Rattle.chains.specs.Words.{chainOf, reads}
+use Rattle.chains.specs.Best.{Prices, price, Limits, bestChain}
 use Rattle.best.specs.declared.choosing.Choice.{Choice}
 use Rattle.best.specs.declared.choosing.Choice.the-variants as choice
-use Rattle.best.specs.KeyTable.{partWeight, noKey, Low, letterCosts, Cheap, prices-low, prices-costs, keyCell}
-use Rattle.best.specs.KeyRows.{RowsOfKeys}
-use Rattle.best.specs.Walk.{Keyed, KeyStart, BestWritten, least-of-all}
 
 -- It is lent a scratch and room for 64 letters.
 pub record ChoosingAsked (scratch letters : List ℕ) : Type 0 where
@@ -37,120 +23,15 @@ pub record Used (entry exit : List ℕ) : Type 0 where
   pub same : length exit ≡ length entry
   pub later : drop scratchSize exit ≡ drop scratchSize entry
 
--- The first k letters are the best word, and its chain, within the limits, has the price.
+-- The first k letters are the word of the best chain of n, whose price is p.
 pub record WordChosen (n : ℕ) (lim : Limits) (π : Prices) (letters : List ℕ) (k p : ℕ) : Type 0 where
-  pub word : bestAt (costsOf partWeight π) (lim .A) (lim .B) true origin n ≡ some (take k letters)
-  pub parts : length (chainOf (take k letters)) ≤ lim .K
+  pub good : T (reads true (take k letters))
+  pub number : total (chainOf (take k letters)) ≡ n
+  pub chain : bestChain n lim π ≡ some (chainOf (take k letters))
   pub told : p ≡ price π (chainOf (take k letters))
   pub room : k ≤ 64
 
+-- What a choice says: the word of the best chain, or that no chain is within the limits.
 abbrev pub ChosenBy : ℕ → Limits → Prices → List ℕ → Choice → Type 0
 ChosenBy n lim π letters (choice.Word k p) = WordChosen n lim π letters k p
-ChosenBy n lim π letters choice.Nothing = bestOf partWeight n lim π ≡ none
-
--- By the case that was met.
-module _ (n : ℕ) (lim : Limits) (π : Prices) (letters : List ℕ) (r : Choice) (h : ChosenBy n lim π letters r) where
-  pub by-word : {k p : ℕ} → r ≡ choice.Word k p → WordChosen n lim π letters k p
-  by-word e = subst (ChosenBy n lim π letters) e h
-
-  pub by-nothing : r ≡ choice.Nothing → bestOf partWeight n lim π ≡ none
-  by-nothing e = subst (ChosenBy n lim π letters) e h
-
--- ---- the number 0
-
-pub zero-chosen : (n : ℕ) (lim : Limits) (π : Prices) (letters : List ℕ) → n ≡ 0 → WordChosen n lim π letters 0 0
-unfolding chainOf chainFrom price
-zero-chosen n lim π letters e =
-    record {
-      word = rw e (best-zero (costsOf partWeight π) (lim .A) (lim .B) true origin);
-      parts = omega arith;
-      told = refl;
-      room = omega arith;
-    }
-
--- ---- the best word
-
--- The best word of n is one of its list: a good word that stands for n.
-pub best-listed : (κ : Costs) (A B n : ℕ) (w : Word) → bestAt κ A B true origin n ≡ some w → T (reads true w) × (weight w ≡ n)
-best-listed κ A B n w e =
-    let r : FirstLeast (inGrid A B origin) (key κ) (wordsAt true n) w = rw e at (best-found κ A B true origin n) in
-    member-words true n w .0 (first-member (inGrid A B origin) (key κ) r)
-
--- ---- the least key
-
-module _ {n : ℕ} (lim : Limits) (π : Prices) (fits : n < 2 ^ 64) (cheap : Cheap π) where
-  abbrev best : Option Word
-  best = bestAt (costsOf partWeight π) (lim .A) (lim .B) true origin n
-
-  abbrev leastOf : ℕ
-  leastOf = leastKey noKey (costsOf partWeight π) (lim .A) (lim .B) true origin n
-
-  -- It tells the parts and the price of the best word's chain.
-  least-tells : (w : Word) → best ≡ some w
-      → (leastOf ≡ partWeight * length (chainOf w) + price π (chainOf w)) × (price π (chainOf w) < partWeight)
-  unfolding leastKey keyOr
-  least-tells w e =
-      let r : FirstLeast (inGrid (lim .A) (lim .B) origin) (key (costsOf partWeight π)) (wordsAt true n) w =
-      rw e at (best-found (costsOf partWeight π) (lim .A) (lim .B) true origin n) in
-      let m = member-words true n w .0 (first-member (inGrid (lim .A) (lim .B) origin) (key (costsOf partWeight π)) r) in
-      let c : ChainOf n (chainOf w) = record { chained = word-chained w; sums = total-chainOf w ∙ m .1 } in
-      let p = price-fits n π fits (cheap .d) (cheap .t) (cheap .s) (chainOf w) c in
-      (rw e (omega (arith, key-price partWeight π w (m .0), parts-bound n 64 (chainOf w) c fits)), p)
-
-  pub none-within : lim .K < leastOf / partWeight → bestOf partWeight n lim π ≡ none
-  unfolding bestOf upTo
-  none-within h = go best refl
-    where
-      go : (o : Option Word) → best ≡ o → upTo (lim .K) o ≡ none
-      go none e = refl
-      go (some w) e = rw (lt-leb (length (chainOf w)) (lim .K) (omega (arith, least-tells w e)))
-
-  pub word-within : (letters : List ℕ) (k : ℕ) → best ≡ some (take k letters) → k ≤ 64 → leastOf / partWeight ≤ lim .K
-      → WordChosen n lim π letters k (leastOf % partWeight)
-  word-within letters k e room h =
-      let t = least-tells (take k letters) e in
-      record { word = e; parts = omega arith; told = omega arith; room = room }
-
--- ---- with the table in the scratch
-
--- What is at hand when the table is filled: the costs of the prices, a number of 64 bits that is not 0, prices of 16 bits, a limit
--- on parts of 8 bits.
-pub record Begun (costs : List ℕ) (n : ℕ) (lim : Limits) (π : Prices) (scratch letters : List ℕ) : Type 0 where
-  pub costs-are : costs ≡ letterCosts π
-  pub fits : n < 2 ^ 64
-  pub some-left : 1 ≤ n
-  pub cheap : Cheap π
-  pub byte : lim .K < 2 ^ 8
-  pub asked : ChoosingAsked scratch letters
-
-module _ {costs : List ℕ} {n : ℕ} {lim : Limits} {π : Prices} {entry letters : List ℕ} (b : Begun costs n lim π entry letters) where
-  low : Low costs
-  low = rw (b .costs-are) (prices-low π (b .cheap))
-
-  pub fill-asked : RowsOfKeys costs 0 n entry
-  fill-asked =
-      record { low = low; asked = record { last = omega arith; room = b .asked .size; below = omega (arith, b .fits) } }
-
-  module _ {l : List ℕ} (f : RowsFilled (keyCell costs (lim .A) (lim .B)) 0 n entry l) where
-    keyed : Keyed costs (lim .A) (lim .B) n l
-    keyed = record { low = low; size = omega (arith, b .asked .size, f .same); table = f .rows }
-
-    key-is : getD l 0 0 ≡ leastKey noKey (costsOf partWeight π) (lim .A) (lim .B) true origin n
-    key-is = least-of-all keyed (b .some-left) ∙ rw (b .costs-are, prices-costs)
-
-    pub filled-used : Used entry l
-    filled-used = record { same = f .same; later = f .later }
-
-    pub filled-none : lim .K < getD l 0 0 / partWeight → bestOf partWeight n lim π ≡ none
-    filled-none h = none-within lim π (b .fits) (b .cheap) (rw key-is at h)
-
-    module _ (h : getD l 0 0 / partWeight ≤ lim .K) where
-      pub write-asked : KeyStart costs (lim .A) (lim .B) n l letters
-      write-asked =
-          record { keys = keyed; some-left = b .some-left; found = omega (arith, b .byte); room = b .asked .room }
-
-      pub filled-word : {exit : List ℕ} (k : ℕ) → BestWritten costs (lim .A) (lim .B) n k exit
-          → WordChosen n lim π exit k (getD l 0 0 % partWeight)
-      filled-word {exit} k w =
-          rw key-is
-          (word-within lim π (b .fits) (b .cheap) exit k (rw (b .costs-are, prices-costs) at (w .word)) (w .room) (rw key-is at h))
+ChosenBy n lim π letters choice.Nothing = bestChain n lim π ≡ none

@@ -4,31 +4,32 @@
 -- Definitions only. That the outcome is the best chain of demand 3 is in Demand3.
 use mathlib.Core.List.{List}
 use mathlib.Core.Option.{Option, none, some}
-use Prim.Native.Nat.{ℕ, _^_}
+use Prim.Native.Nat.{ℕ}
 use lib.ListN.{length}
 use Rattle.chains.specs.Chains.{Part}
 use Rattle.chains.specs.Listing.{position}
-use Rattle.chains.specs.Best.{Prices, price, Limits}
-use Rattle.chains.specs.BestOfAll.{bestOf}
+use Rattle.chains.specs.Best.{Prices, price, Limits, bestChain}
 use Rattle.ranking.specs.Services.{Outcome, refused, gives}
+use Rattle.best.specs.declared.Limits as given
+use Rattle.best.specs.declared.Prices as asked
 use Rattle.best.specs.declared.Chosen.{Chosen}
 use Rattle.best.specs.declared.Chosen.the-variants.{Chain, Refused}
 
--- What a line asks with.
-abbrev pub pricesOf : ℕ → ℕ → ℕ → Prices
-pricesOf d t s = record { d = d; t = t; s = s }
+-- What the code's structs stand for.
+abbrev pub limitsOf : given.Limits → Limits
+limitsOf l = record { K = l .parts; A = l .doublings; B = l .triplings }
 
-abbrev pub limitsOf : ℕ → ℕ → ℕ → Limits
-limitsOf K A B = record { K = K; A = A; B = B }
+abbrev pub pricesOf : asked.Prices → Prices
+pricesOf p = record { d = p .doubling; t = p .tripling; s = p .addition }
 
 -- A chain of n, if there is one, and else refusal 5.
 unfoldable pub orNone : ℕ → Option (List Part) → Outcome
 orNone n none = refused 5
 orNone n (some c) = gives n c
 
--- The best chain of n within the limits. A price is below 2^32, so fewer parts come before a lower price.
+-- The best chain of n within the limits.
 unfoldable pub bestOutcome : ℕ → Limits → Prices → Outcome
-bestOutcome n lim π = orNone n (bestOf (2 ^ 32) n lim π)
+bestOutcome n lim π = orNone n (bestChain n lim π)
 
 -- The position, how many parts and the price, or the refusal.
 unfoldable pub chosenOf : Prices → Outcome → Chosen

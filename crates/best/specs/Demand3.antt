@@ -1,54 +1,45 @@
--- Demand 3: what the best chain answers is a chain of n within the limits, and every other such chain has more parts, or as many
--- and a higher price, or the same and a later position; it refuses with 5 exactly where no chain of n is within the limits.
+-- Demand 3: the best chain is a chain of n within the limits, and every other such chain has more parts, or as many and a higher
+-- price, or the same and a later position; it is refused with 5 exactly where no chain of n is within the limits.
 --
--- In this order: the outcome (`given-is-best`, `refused-none`), and the answer that a caller sees (`demand-3`), where enough is
--- lent; the number 0; limits above 64, 63 and 40.
+-- In this order: what demand 3 asks of an answer and of the places; the outcome (`given-is-best`, `refused-none`), and what a
+-- caller gets where enough is lent, the answer and the places (`demand-3`); the number 0; limits above 64, 63 and 40.
 use mathlib.Core.Path.{_≡_, refl, sym, ap}
 use mathlib.Core.Logic.{_↔_}
-use mathlib.Core.List.{List, [], _∷_, List·Memᴰ·head}
+use mathlib.Core.List.{List, [], _∷_, map}
 use mathlib.Core.Option.{Option, none, some}
 use Prim.Native.Nat.{ℕ, _^_, _≤_, _<_, min}
-use native.Mathlib.Nat.{le-mul-of-pos-right, le-trans, lt-of-not-le, mul-comm, one-le-pow, pow-le-pow-right}
 use native.Mathlib.Omega.{arith}
 use lib.ListN.{length}
-use lib.Pow.{pow-mono, pow-pos}
-use Rattle.lent.specs.Lent.{Enough}
-use Rattle.chains.specs.Chains.{Part, value, ChainOf}
+use Rattle.lent.specs.Lent.{filled, Enough}
+use Rattle.chains.specs.Chains.{Part, ChainOf}
 use Rattle.chains.specs.Listing.{position}
-use Rattle.chains.specs.Best.{Prices, price, Limits, Within, IsBest}
-use Rattle.chains.specs.Bounds.{part-at-most, parts-bound}
-use Rattle.chains.specs.BestOfAll.{bestOf, price-fits, best-of-zero, best-unique, none-fits, best-is-best}
-use Rattle.ranking.specs.Services.{Outcome, refused, gives, lent}
+use Rattle.chains.specs.Best.{Prices, price, Limits, Within, NoneFits, IsBest, bestChain}
+use Rattle.chains.specs.BestLaws.{best-unique, best-chain, best-none, best-of-zero}
+use Rattle.chains.specs.Bounds.{chain-bounds}
+use Rattle.parts.specs.Parts.{partNumber}
+use Rattle.ranking.specs.Services.{Outcome, refused, gives, lent, placesLeft}
 use Rattle.best.specs.declared.Chosen.{Chosen}
 use Rattle.best.specs.declared.Chosen.the-variants.{Chain, Refused}
 use Rattle.ranking.specs.RoundTrips.{lent-all}
 use Rattle.best.specs.Chosen.{orNone, bestOutcome, chosenOf}
-use Rattle.best.specs.KeyTable.{Cheap}
 
--- No chain of n is within the limits.
-abbrev pub NoneFits : ℕ → Limits → Type 0
-NoneFits n lim = (c : List Part) → ChainOf n c → Within lim c → ⊥
-
--- The best chain, whose position, number of parts and price are told.
-pub record BestTold (n : ℕ) (lim : Limits) (π : Prices) (i k p : ℕ) : Type 0 where
+-- The best chain stands in the places at exit, and its position, its number of parts and its price are told: i, k and p.
+pub record BestTold (n : ℕ) (lim : Limits) (π : Prices) (entry exit : List ℕ) (i k p : ℕ) : Type 0 where
   pub chain : List Part
   pub best : IsBest n lim π chain
-  pub place : i ≡ position n chain
-  pub parts : k ≡ length chain
-  pub cost : p ≡ price π chain
+  pub told-position : i ≡ position n chain
+  pub told-parts : k ≡ length chain
+  pub told-price : p ≡ price π chain
+  pub stands : exit ≡ filled 64 (map partNumber chain) entry
 
--- What demand 3 asks of an answer.
-abbrev pub Meets : ℕ → Limits → Prices → Chosen → Type 0
-Meets n lim π (Chain i k p) = BestTold n lim π i k p
-Meets n lim π (Refused r) = (r ≡ 5) × NoneFits n lim
+-- What demand 3 asks of an answer, and of the places at exit, where `entry` stood in them.
+abbrev pub Meets : ℕ → Limits → Prices → List ℕ → List ℕ → Chosen → Type 0
+Meets n lim π entry exit (Chain i k p) = BestTold n lim π entry exit i k p
+Meets n lim π entry exit (Refused r) = (r ≡ 5) × NoneFits n lim × (exit ≡ entry)
 
--- ---- a number of 64 bits, prices of 16
+-- ---- the outcome
 
-module _ {n : ℕ} (lim : Limits) {π : Prices} (fits : n < 2 ^ 64) (cheap : Cheap π) where
-  -- No price reaches 2^32.
-  low : (c : List Part) → ChainOf n c → price π c < 2 ^ 32
-  low = price-fits n π fits (cheap .d) (cheap .t) (cheap .s)
-
+module _ (n : ℕ) (lim : Limits) (π : Prices) where
   -- The outcome is one of two.
   data Told : Outcome → Type 0 where
     fitting : (c : List Part) → IsBest n lim π c → Told (gives n c)
@@ -56,11 +47,11 @@ module _ {n : ℕ} (lim : Limits) {π : Prices} (fits : n < 2 ^ 64) (cheap : Che
 
   told : Told (bestOutcome n lim π)
   unfolding bestOutcome orNone
-  told = go (bestOf (2 ^ 32) n lim π) refl
+  told = go (bestChain n lim π) refl
     where
-      go : (o : Option (List Part)) → bestOf (2 ^ 32) n lim π ≡ o → Told (orNone n o)
-      go none e = nothing (none-fits (2 ^ 32) n lim π low e)
-      go (some c) e = fitting c (best-is-best (2 ^ 32) n lim π low c e)
+      go : (o : Option (List Part)) → bestChain n lim π ≡ o → Told (orNone n o)
+      go none e = nothing (best-none n lim π .0 e)
+      go (some c) e = fitting c (best-chain n lim π c .0 e)
 
   -- It gives the best chain of n within the limits, and no other;
   pub given-is-best : (c : List Part) → (bestOutcome n lim π ≡ gives n c) ↔ IsBest n lim π c
@@ -86,54 +77,46 @@ module _ {n : ℕ} (lim : Limits) {π : Prices} (fits : n < 2 ^ 64) (cheap : Che
       is-refused o (fitting c b) f = absurd (f c (b .chain) (b .within))
       is-refused o (nothing f) g = refl
 
-  -- The answer.
-  pub demand-3 : {s p : List ℕ} → Enough 64 s p → Meets n lim π (chosenOf π (lent s p (bestOutcome n lim π)))
-  unfolding chosenOf
+  -- The answer and the places at exit, as the contract of `best_chain` has them.
+  pub demand-3 : {s p : List ℕ} → Enough 64 s p
+      → Meets n lim π p (placesLeft (lent s p (bestOutcome n lim π)) p) (chosenOf π (lent s p (bestOutcome n lim π)))
+  unfolding chosenOf placesLeft
   demand-3 {s} {p} h = rw (lent-all s p (bestOutcome n lim π) h) (go (bestOutcome n lim π) told)
     where
-      go : (o : Outcome) → Told o → Meets n lim π (chosenOf π o)
-      go o (fitting c b) = record { chain = c; best = b; place = refl; parts = refl; cost = refl }
-      go o (nothing f) = (refl, f)
+      go : (o : Outcome) → Told o → Meets n lim π p (placesLeft o p) (chosenOf π o)
+      go o (fitting c b) =
+          record { chain = c; best = b; told-position = refl; told-parts = refl; told-price = refl; stands = refl }
+      go o (nothing f) = (refl, f, refl)
 
 -- ---- the number 0
 
 -- The empty chain, whatever the limits and the prices.
 pub zero-given : (lim : Limits) (π : Prices) → bestOutcome 0 lim π ≡ gives 0 []
 unfolding bestOutcome orNone
-zero-given lim π = rw (best-of-zero (2 ^ 32) lim π)
+zero-given lim π = rw (best-of-zero lim π)
 
 -- ---- limits above 64, 63 and 40 exclude nothing
 
+-- The limits cut down to those.
+unfoldable pub cut : Limits → Limits
+cut lim = record { K = min (lim .K) 64; A = min (lim .A) 63; B = min (lim .B) 40 }
+
 module _ {n : ℕ} (fits : n < 2 ^ 64) where
-  pub chain-low : (p : Part) (c : List Part) → ChainOf n (p ∷ c) → (length (p ∷ c) ≤ 64) × (p .a ≤ 63) × (p .b ≤ 40)
-  unfolding value
-  chain-low p c h =
-      let v = part-at-most n (p ∷ c) p h (List·Memᴰ·head refl) in
-      let two = le-trans (le-mul-of-pos-right (2 ^ p .a) (one-le-pow (p .b) 3 (omega arith))) v in
-      let three = le-trans (le-mul-of-pos-right (3 ^ p .b) (pow-pos (p .a))) (rw mul-comm at v) in
-      let a : p .a < 64 = lt-of-not-le (λ g. omega (arith, pow-mono g)) in
-      let b : p .b < 41 = lt-of-not-le (λ g. omega (arith, pow-le-pow-right {n = 3} (omega arith) g)) in
-      (parts-bound n 64 (p ∷ c) h fits, omega arith, omega arith)
-
-  -- The same chains are within the limits cut down to those.
-  abbrev cut : Limits → Limits
-  cut lim = record { K = min (lim .K) 64; A = min (lim .A) 63; B = min (lim .B) 40 }
-
+  -- The same chains are within them.
   within-cut : (lim : Limits) (c : List Part) → ChainOf n c → Within lim c ↔ Within (cut lim) c
-  unfolding Within
+  unfolding Within cut
   within-cut lim [] h = (λ _. tt, λ _. tt)
   within-cut lim (p ∷ c) h =
-      let l = chain-low p c h in
+      let l = chain-bounds n p c fits h in
       (λ w. (omega arith, omega arith, omega arith), λ w. (omega arith, omega arith, omega arith))
 
-  pub limits-cut : (lim : Limits) {π : Prices} → Cheap π
-      → bestOutcome n lim π ≡ bestOutcome n (record { K = min (lim .K) 64; A = min (lim .A) 63; B = min (lim .B) 40 }) π
-  limits-cut lim {π} cheap = go (bestOutcome n lim π) (told lim fits cheap)
+  pub limits-cut : (lim : Limits) (π : Prices) → bestOutcome n lim π ≡ bestOutcome n (cut lim) π
+  limits-cut lim π = go (bestOutcome n lim π) (told n lim π)
     where
-      go : (o : Outcome) → Told lim fits cheap o → o ≡ bestOutcome n (cut lim) π
-      go o (fitting c b) = sym (given-is-best (cut lim) fits cheap c .1 (record {
+      go : (o : Outcome) → Told n lim π o → o ≡ bestOutcome n (cut lim) π
+      go o (fitting c b) = sym (given-is-best n (cut lim) π c .1 (record {
         chain = b .chain;
         within = within-cut lim c (b .chain) .0 (b .within);
         best = λ c′ h w d. b .best c′ h (within-cut lim c′ h .1 w) d;
       }))
-      go o (nothing f) = sym (refused-none (cut lim) fits cheap .1 (λ c h w. f c h (within-cut lim c h .1 w)))
+      go o (nothing f) = sym (refused-none n (cut lim) π .1 (λ c h w. f c h (within-cut lim c h .1 w)))

@@ -1,15 +1,20 @@
 -- The best chain. What a reader must believe: Chosen (what the best chain answers). The theorem on it:
---   Demand3   the answer is the best chain, and 5 exactly where none fits
--- What the private functions cite:
+--   Demand3   the answer and the places are those of the best chain, and 5 comes exactly where none fits
+-- What the contracts of the private functions name; the laws of X are in XLaws:
 --   KeyTable  what a cell of the key table holds
---   KeyRows   how the key table is filled
+--   KeyRows   what the calls that fill the key table ask and leave
 --   Walk      the walk along it that writes the best word
---   Choosing  the best word of n within limits
+--   Choosing  the word of the best chain within limits
 --   Placing   what placing the chosen word answers
 pub mod Chosen
 pub mod KeyTable
+pub mod KeyTableLaws
 pub mod KeyRows
+pub mod KeyRowsLaws
 pub mod Walk
+pub mod WalkLaws
 pub mod Choosing
+pub mod ChoosingLaws
 pub mod Placing
+pub mod PlacingLaws
 pub mod Demand3

@@ -1,4 +1,6 @@
 // Choosing: the best word of n within the limits, by a table of keys.
+use super::Limits;
+use super::Prices;
 use super::keys;
 use super::walk;
 ghost use lib.ListN.{length};
@@ -11,21 +13,17 @@ pub enum Choice {
     Nothing,
 }
 
-// The best word of n within the limits, at the start of `letters`. The number 0 has the empty word, whatever the limits. The key of
+// The best word of n within the limits, at the start of `letters`. The number 0 has the empty word, within any limits. The key of
 // no word counts 256 parts, which is above every limit.
 pub fn choose(
     n: u64,
-    parts_limit: u8,
-    a_limit: u8,
-    b_limit: u8,
-    d: u16,
-    t: u16,
-    s: u16,
+    limits: Limits,
+    prices: Prices,
     scratch: &mut [u64],
     letters: &mut [u8],
 ) -> Choice
     requires { ⌜ ChoosingAsked (now scratch) (now letters) ⌝ }
-    ensures { λ r. ⌜ ChosenBy n (limitsOf «parts_limit» «a_limit» «b_limit») (pricesOf d t s) (now (letters .exit)) r ⌝ }
+    ensures { λ r. ⌜ ChosenBy n (limitsOf limits) (pricesOf prices) (now (letters .exit)) r ⌝ }
     ensures { λ _. ⌜ Used (now (scratch .entry)) (now (scratch .exit)) ⌝ }
 {
     if n == 0 {
@@ -34,12 +32,12 @@ pub fn choose(
             price: 0,
         };
     }
-    let doublings = a_limit as usize;
-    let triplings = b_limit as usize;
-    let costs = keys::letter_costs(d, t, s);
+    let doublings = limits.doublings as usize;
+    let triplings = limits.triplings as usize;
+    let costs = keys::letter_costs(prices);
     keys::fill_rows(scratch, 0, n, &costs, doublings, triplings);
     let key = scratch[0];
-    if key / keys::PART > parts_limit as u64 {
+    if key / keys::PART > limits.parts as u64 {
         return Choice::Nothing;
     }
     let length = walk::write_best(n, scratch, &costs, doublings, triplings, letters);

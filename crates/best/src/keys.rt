@@ -6,12 +6,13 @@
 // remainders by three of all its rests, so no cell is divided, and a bit chooses a cost without a branch.
 //
 // `doublings` and `triplings` are the limits A and B.
+use super::Prices;
 use std::num::wrapping_add_u64;
 ghost use mathlib.Core.Path.{_≡_};
 ghost use Prim.Native.Nat.{_≤_, _%_, min};
 ghost use lib.ListN.{length};
 ghost use Rattle.grid.specs.Grid.{RowFilled, RowsFilled};
-ghost use Rattle.best.specs.KeyTable.{letterCosts, keyCell, pick};
+ghost use Rattle.best.specs.KeyTable.{letterCosts, Cheap, keyCell, pick};
 ghost use Rattle.best.specs.Chosen.{pricesOf};
 ghost use Rattle.best.specs.KeyRows.{NoKeys, BelowAsked, LiveRow, RowOfKeys, RowsOfKeys};
 
@@ -21,18 +22,16 @@ pub const PART: u64 = 1 << 32;
 // The key of no word.
 pub const NONE: u64 = 1 << 40;
 
-// What the letters 0 to 3 cost where they are not the last, and what the last point costs.
-pub fn letter_costs(d: u16, t: u16, s: u16) -> [u64; 5]
-    ensures { λ r. ⌜ r ≡ letterCosts (pricesOf d t s) ⌝ }
+// What the letters 0 to 3 cost where they are not the last, and what the last point costs. It tells too that the prices are of 16
+// bits, which bounds every key.
+pub fn letter_costs(prices: Prices) -> [u64; 5]
+    ensures { λ r. ⌜ r ≡ letterCosts (pricesOf prices) ⌝ }
+    ensures { λ _. ⌜ Cheap (pricesOf prices) ⌝ }
 {
-    let addition = PART + s as u64;
-    [
-        d as u64,
-        addition + d as u64,
-        t as u64,
-        addition + t as u64,
-        PART,
-    ]
+    let d = prices.doubling as u64;
+    let t = prices.tripling as u64;
+    let part = PART + prices.addition as u64;
+    [d, part + d, t, part + t, PART]
 }
 
 fn least(x: u64, y: u64) -> u64
@@ -163,7 +162,8 @@ pub fn fill_rows(
     triplings: usize,
 )
     requires { ⌜ RowsOfKeys (now costs) b m (now scratch) ⌝ }
-    ensures { λ _. ⌜ RowsFilled (keyCell (now (costs .entry)) doublings triplings) b m (now (scratch .entry)) (now (scratch .exit)) ⌝ }
+    ensures { λ _. ⌜ RowsFilled (keyCell (now (costs .entry)) doublings triplings) b m
+        (now (scratch .entry)) (now (scratch .exit)) ⌝ }
 {
     let rests = grid::row_rests(m);
     let mut i = 41;

@@ -42,7 +42,8 @@ fn walk_step(
     w: Walk,
 ) -> Walk
     requires { ⌜ KeyStep (now costs) doublings triplings n (now scratch) (w .a) (w .b) (w .free) (w .rest) ⌝ }
-    ensures { λ r. ⌜ KeyRisen (now (costs .entry)) doublings triplings n (w .a) (w .b) (r .letter) (r .a) (r .b) (r .free) (r .rest) ⌝ }
+    ensures { λ r. ⌜ KeyRisen (now (costs .entry)) doublings triplings n (w .a) (w .b)
+        (r .letter) (r .a) (r .b) (r .free) (r .rest) ⌝ }
 {
     let a = w.a;
     let b = w.b;

@@ -1,10 +1,10 @@
 -- The best chain over all chains of n is that of the best word: document 01, 'Services and memory'; demand 3.
 --
 -- First the definitions: the costs of letters for document 01's prices, where a part counts M, and the chain that they choose
--- (`bestOf`). Then: the key of a word is M for each part of its chain, and the chain's price (`key-price`); the limits on a word;
--- how high a price can be (`price-fits`: below 2^32 for a number of 64 bits and prices of 16); the first word of least key has the
--- earliest position. Last the theorems of record: a number has one best chain at most (`best-unique`); where no price reaches M,
--- `bestOf` answers none only if no chain is within the limits (`none-fits`), and a chain only if that is the best (`best-is-best`).
+-- (`leastKeyed`). Then: the key of a word is M for each part of its chain, and the chain's price (`key-price`); the limits on a
+-- word; how high a price can be (`price-fits`: below 2^32 for a number of 64 bits and prices of 16); the first word of least key
+-- has the earliest position. Last the theorem of record: where no price reaches M, the chain of least key is the best chain
+-- (`keyed-is-best`).
 --
 -- The best word is defined in Keys and found in Bests; price, limits and the best chain are defined in Best.
 use mathlib.Core.Path.{_≡_, refl, sym, ap, _∙_}
@@ -14,26 +14,26 @@ use mathlib.Core.List.{List, [], _∷_, List·Memᴰ}
 use mathlib.Core.Option.{Option, none, some}
 use Prim.Native.Nat.{ℕ, zero, suc, _+_, _*_, _^_, _≤_, _<_}
 use native.Mathlib.Nat.{mul-suc, mul-le-mul-left}
-use native.Mathlib.Decide.{decLt, ℕ-discrete}
+use native.Mathlib.Decide.{decLt}
 use native.Mathlib.Omega.{arith}
-use lib.Dec.{T, leb, leb·zero}
+use lib.Dec.{T, leb}
 use lib.ListN.{length, getD, length-append, List·getD-append}
 use lib.Seq.{getD-append-seam}
 use mir.Facts.{and-yes}
 use borrow.Author.Tests.{leb-true, leb-false}
 use Rattle.chains.specs.Chains.{Part, ChainOf}
 use Rattle.chains.specs.Words.{Word, origin, wordOf, right, up, chainFrom, chainOf, someLeft, reads}
-use Rattle.chains.specs.Listing.{wordsAt, listOf, countBefore, position, chainAt}
-use Rattle.chains.specs.Best.{Prices, price, Limits, Within, Better, IsBest}
+use Rattle.chains.specs.Listing.{wordsAt, listOf, countBefore, position}
+use Rattle.chains.specs.Best.{Prices, price, Limits, Within, Better, IsBest, bestChain}
+use Rattle.chains.specs.BestLaws.{Answers, best-chain, best-none}
 use Rattle.chains.specs.Weight.{weight, total-chainOf}
 use Rattle.chains.specs.Members.{member-words, getD-member}
 use Rattle.chains.specs.Listed.{chain-listed}
 use Rattle.chains.specs.Positions.{words-position, words-at-position}
-use Rattle.chains.specs.PositionsOfChains.{at-position}
 use Rattle.chains.specs.RoundTrip.{chain-word-chain, word-reads, word-chained, word-chain-word}
 use Rattle.chains.specs.Bounds.{parts-bound, word-bound, word-length}
 use Rattle.chains.specs.Keys.{Costs, key, next, lastPoint, inGrid, bestAt}
-use Rattle.chains.specs.Bests.{FirstLeast, Found, first-member, first-no-less, inside-bounds, best-found, best-zero}
+use Rattle.chains.specs.Bests.{FirstLeast, Found, first-member, first-no-less, inside-bounds, best-found}
 
 -- ---- the chain that the costs choose
 
@@ -55,13 +55,8 @@ upTo K none = none
 upTo K (some w) = cond (leb (length (chainOf w)) K) (some (chainOf w)) none
 
 -- The chain of the best word from (0, 0) on: A and B cut the grid, and K is looked at once, at the end.
-unfoldable pub bestOf : ℕ → ℕ → Limits → Prices → Option (List Part)
-bestOf M n lim π = upTo (lim .K) (bestAt (costsOf M π) (lim .A) (lim .B) true origin n)
-
--- The empty chain for 0, whatever the limits.
-pub best-of-zero : (M : ℕ) (lim : Limits) (π : Prices) → bestOf M 0 lim π ≡ some []
-unfolding bestOf upTo chainOf chainFrom
-best-of-zero M lim π = rw (best-zero (costsOf M π) (lim .A) (lim .B) true origin, leb·zero (lim .K))
+unfoldable pub leastKeyed : ℕ → ℕ → Limits → Prices → Option (List Part)
+leastKeyed M n lim π = upTo (lim .K) (bestAt (costsOf M π) (lim .A) (lim .B) true origin n)
 
 -- ---- the key and the end of a word
 
@@ -217,35 +212,6 @@ by-digits M k k′ x x′ h h′ e = go (decLt k k′) (decLt k′ k)
     go (no l) (yes g) = absurd (omega (arith, mul-le-mul-left M g, mul-suc M k′))
     go (no l) (no g) = let q : k ≡ k′ = omega arith in inr (q, omega (arith, ap (λ (i : ℕ). M * i) q))
 
--- Of two chains not each is better than the other.
-not-both : (n : ℕ) (π : Prices) (c c′ : List Part) → Better n π c c′ → Better n π c′ c → ⊥
-unfolding Better
-not-both n π c c′ (inl h) (inl k) = omega arith
-not-both n π c c′ (inl h) (inr k) = omega arith
-not-both n π c c′ (inr h) (inl k) = omega arith
-not-both n π c c′ (inr h) (inr k) = by-price (h .1) (k .1)
-  where
-    by-price :
-        (price π c < price π c′) ⊎ ((price π c ≡ price π c′) × (position n c < position n c′))
-        → (price π c′ < price π c) ⊎ ((price π c′ ≡ price π c) × (position n c′ < position n c))
-        → ⊥
-    by-price (inl h) (inl k) = omega arith
-    by-price (inl h) (inr k) = omega arith
-    by-price (inr h) (inl k) = omega arith
-    by-price (inr h) (inr k) = omega arith
-
--- A number has one best chain at most.
-pub best-unique : (n : ℕ) (lim : Limits) (π : Prices) (c c′ : List Part) → IsBest n lim π c → IsBest n lim π c′ → c ≡ c′
-best-unique n lim π c c′ h h′ = go (ℕ-discrete (position n c) (position n c′))
-  where
-    go : Dec (position n c ≡ position n c′) → c ≡ c′
-    go (yes e) = sym (at-position n c (h .chain) .1) ∙ ap (chainAt n) e ∙ at-position n c′ (h′ .chain) .1
-    go (no d) =
-        absurd
-        (not-both n π c c′
-        (h .best c′ (h′ .chain) (h′ .within) (λ (q : c′ ≡ c). d (ap (position n) (sym q))))
-        (h′ .best c (h .chain) (h .within) (λ (q : c ≡ c′). d (ap (position n) q))))
-
 module _ (M n : ℕ) (lim : Limits) (π : Prices) (cheap : (c : List Part) → ChainOf n c → price π c < M) where
   -- What the best word is chosen by: a word that ends in the grid, of least key.
   abbrev ends : Word → Bool
@@ -321,13 +287,8 @@ module _ (M n : ℕ) (lim : Limits) (π : Prices) (cheap : (c : List Part) → C
         go c h b d (yes p) (inr e) = inr (e .0, inl p)
         go c h b d (no p) (inr e) = inr (e .0, inr (omega arith, later c h b d (e .0) (omega arith)))
 
-  -- What an answer tells.
-  abbrev Told : Option (List Part) → Type 0
-  Told none = (c : List Part) → ChainOf n c → Within lim c → ⊥
-  Told (some c) = IsBest n lim π c
-
-  told : Told (bestOf M n lim π)
-  unfolding bestOf upTo listOf
+  told : Answers n lim π (leastKeyed M n lim π)
+  unfolding leastKeyed upTo listOf
   told = go (bestAt (costsOf M π) (lim .A) (lim .B) true origin n) (best-found (costsOf M π) (lim .A) (lim .B) true origin n)
     where
       parts :
@@ -335,7 +296,7 @@ module _ (M n : ℕ) (lim : Limits) (π : Prices) (cheap : (c : List Part) → C
           → FirstLeast ends cost (wordsAt true n) w
           → (b : Bool)
           → leb (length (chainOf w)) (lim .K) ≡ b
-          → Told (cond b (some (chainOf w)) none)
+          → Answers n lim π (cond b (some (chainOf w)) none)
       parts w r true e = is-best w r (leb-true (length (chainOf w)) (lim .K) e)
       parts w r false e =
           λ c h b.
@@ -345,14 +306,14 @@ module _ (M n : ℕ) (lim : Limits) (π : Prices) (cheap : (c : List Part) → C
           (λ (l : (length (chainOf w) ≡ length c) × (price π (chainOf w) ≤ price π c)). omega (arith, leb-false))
           (no-better w r c h b)
 
-      go : (o : Option Word) → Found ends cost (wordsAt true n) o → Told (upTo (lim .K) o)
+      go : (o : Option Word) → Found ends cost (wordsAt true n) o → Answers n lim π (upTo (lim .K) o)
       go none f = λ c h b. f (wordOf c) (chain-listed n c h) (fits c h .0 b .1)
       go (some w) r = parts w r (leb (length (chainOf w)) (lim .K)) refl
 
-  -- Where the answer is none, no chain of n is within the limits.
-  pub none-fits : bestOf M n lim π ≡ none → (c : List Part) → ChainOf n c → Within lim c → ⊥
-  none-fits e = rw e at told
-
-  -- Where the answer is a chain, it is the best chain of n within the limits.
-  pub best-is-best : (c : List Part) → bestOf M n lim π ≡ some c → IsBest n lim π c
-  best-is-best c e = rw e at told
+  -- The chain of least key is the best chain; there is none where no chain is within the limits.
+  pub keyed-is-best : leastKeyed M n lim π ≡ bestChain n lim π
+  keyed-is-best = go (leastKeyed M n lim π) told
+    where
+      go : (o : Option (List Part)) → Answers n lim π o → o ≡ bestChain n lim π
+      go none f = sym (best-none n lim π .1 f)
+      go (some c) b = sym (best-chain n lim π c .1 b)

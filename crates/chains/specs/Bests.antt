@@ -159,7 +159,7 @@ full-words f m h [] k = absurd (omega (arith, member-words f m [] .0 k .1))
 full-words f m h (l ∷ w) k = tt
 
 -- Where b rises, at a rest of 2 or more, the third is not 0.
-third-left : (f : Bool) (m : ℕ) → 2 ≤ m → T (rises f (m % 3)) → 0 < m / 3
+pub third-left : (f : Bool) (m : ℕ) → 2 ≤ m → T (rises f (m % 3)) → 0 < m / 3
 unfolding rises
 third-left f m h t = omega (arith, low (m % 3) t)
   where

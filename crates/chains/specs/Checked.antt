@@ -2,32 +2,40 @@
 --
 -- In this order: what an entry of the table says, the table, the test that antt computes over the whole table, what the test shows
 -- of an entry, and the theorem of record, `checked`.
-use mathlib.Core.Path.{_≡_, refl, ap₂}
+use mathlib.Core.Path.{_≡_, refl, sym, ap, ap₂, _∙_}
+use mathlib.Core.Logic.{_⊎_, ⊎-elim}
 use mathlib.Core.Bool.{Bool, true, false, _&&_, _||_}
 use mathlib.Core.List.{List, [], _∷_, List·Memᴰ, List·Memᴰ·head, List·Memᴰ·tail, List·Memᴰ·not-nil}
-use Prim.Native.Nat.{ℕ, _≤_}
+use mathlib.Core.Option.{Option, none, some}
+use Prim.Native.Nat.{ℕ, _≤_, _<_}
+use native.Mathlib.Decide.{ℕ-discrete}
+use native.Mathlib.Omega.{arith}
 use lib.Dec.{T, eqb, leb, eqb→eq, leb→le}
 use lib.Ieee.Fits.{and-l, and-r}
 use lib.ListN.{length}
 use Rattle.chains.specs.Chains.{Part, ChainOf}
 use Rattle.chains.specs.Words.{Word, right, up, wordOf, chainFrom, chainOf}
-use Rattle.chains.specs.Listing.{byThird, atRest, wordsIn, wordsAt, listOf, count}
+use Rattle.chains.specs.Listing.{byThird, atRest, wordsIn, wordsAt, listOf, count, position}
+use Rattle.chains.specs.Best.{Prices, price, Limits, Within, Better, IsBest, isWithin, bestChain}
+use Rattle.chains.specs.BestLaws.{within-tested, Answers, answers}
 use Rattle.chains.specs.RoundTrip.{chain-word-chain}
 use Rattle.chains.specs.Listed.{list-of-chains, chain-listed}
 
--- A checked number n: how many chains it has, their words in order, or the fewest parts that any of them has, which are those of
--- the best chain.
+-- A checked number n: how many chains it has, their words in order, or how many parts its best chain has.
 pub data Entry : Type 0 where
   chains : ℕ → ℕ → Entry
   words : ℕ → List Word → Entry
-  fewest : ℕ → ℕ → Entry
+  best : ℕ → ℕ → Entry
 
--- What an entry says.
+-- Limits that exclude no chain of a number below 2^64.
+unfoldable pub free : Limits
+free = record { K = 64; A = 63; B = 40 }
+
+-- What an entry says. The best chain has as many parts by all prices.
 unfoldable pub Holds : Entry → Type 0
 Holds (chains n k) = count n ≡ k
 Holds (words n l) = listOf n ≡ l
-Holds (fewest n k) =
-    ((c : List Part) × ChainOf n c × (length c ≡ k)) × ((c : List Part) → ChainOf n c → k ≤ length c)
+Holds (best n k) = (π : Prices) → (c : List Part) × IsBest n free π c × (length c ≡ k)
 
 -- The numbers marked ●.
 unfoldable pub table : List Entry
@@ -45,12 +53,12 @@ table =
     ∷ words 27
     ((1 ∷ 1 ∷ 0 ∷ 1 ∷ 3 ∷ []) ∷ (1 ∷ 3 ∷ 0 ∷ 0 ∷ 3 ∷ []) ∷ (1 ∷ 3 ∷ 3 ∷ 3 ∷ []) ∷ (2 ∷ 1 ∷ 0 ∷ 0 ∷ 3 ∷ []) ∷ (2 ∷ 1 ∷ 3 ∷ 3 ∷ [])
     ∷ (2 ∷ 2 ∷ 1 ∷ 3 ∷ []) ∷ (2 ∷ 2 ∷ 2 ∷ 3 ∷ []) ∷ [])
-    ∷ fewest 29 3
+    ∷ best 29 3
     ∷ []
 
 -- ---- tests on lists, and what they show
 
--- `every` and `some` test the entries of a list, `same` two lists entry by entry.
+-- `every` and `any` test the entries of a list, `same` two lists entry by entry.
 module _ {A : Type 0} where
   every : (A → Bool) → List A → Bool
   every p [] = true
@@ -62,16 +70,16 @@ module _ {A : Type 0} where
   every-at p (y ∷ l) t x (List·Memᴰ·head e) = rw e (and-l (p y) (every p l) t)
   every-at p (y ∷ l) t x (List·Memᴰ·tail m) = every-at p l (and-r (p y) (every p l) t) x m
 
-  some : (A → Bool) → List A → Bool
-  some p [] = false
-  some p (x ∷ l) = p x || some p l
+  any : (A → Bool) → List A → Bool
+  any p [] = false
+  any p (x ∷ l) = p x || any p l
 
-  some-at : (p : A → Bool) (l : List A) → T (some p l) → (x : A) × List·Memᴰ x l × T (p x)
-  unfolding some
-  some-at p [] t = absurd t
-  some-at p (x ∷ l) t = go (p x) refl t (some-at p l)
+  any-at : (p : A → Bool) (l : List A) → T (any p l) → (x : A) × List·Memᴰ x l × T (p x)
+  unfolding any
+  any-at p [] t = absurd t
+  any-at p (x ∷ l) t = go (p x) refl t (any-at p l)
     where
-      go : (b : Bool) → p x ≡ b → T (b || some p l) → (T (some p l) → (y : A) × List·Memᴰ y l × T (p y))
+      go : (b : Bool) → p x ≡ b → T (b || any p l) → (T (any p l) → (y : A) × List·Memᴰ y l × T (p y))
           → (y : A) × List·Memᴰ y (x ∷ l) × T (p y)
       go true e u below = (x, List·Memᴰ·head refl, rw e tt)
       go false e u below =
@@ -94,9 +102,9 @@ module _ {A : Type 0} where
 
 -- ---- the test of an entry
 
--- The word's chain has k parts, and has at least k.
-exactly : ℕ → Word → Bool
-exactly k w = eqb (length (chainOf w)) k
+-- The word's chain has k parts and is within the limits, has at least k.
+has : ℕ → Word → Bool
+has k w = eqb (length (chainOf w)) k && isWithin free (chainOf w)
 
 atLeast : ℕ → Word → Bool
 atLeast k w = leb k (length (chainOf w))
@@ -104,24 +112,52 @@ atLeast k w = leb k (length (chainOf w))
 test : Entry → Bool
 test (chains n k) = eqb (count n) k
 test (words n l) = same (same eqb) (listOf n) l
-test (fewest n k) = some (exactly k) (listOf n) && every (atLeast k) (listOf n)
+test (best n k) = any (has k) (listOf n) && every (atLeast k) (listOf n)
+
+-- Where a chain within the limits has k parts and no chain has fewer, the best has k.
+best-has :
+    (n k : ℕ) (π : Prices) (c : List Part)
+    → ChainOf n c
+    → Within free c
+    → length c ≡ k
+    → ((c′ : List Part) → ChainOf n c′ → k ≤ length c′)
+    → (c′ : List Part) × IsBest n free π c′ × (length c′ ≡ k)
+unfolding Better
+best-has n k π c h w e fewest = go (bestChain n free π) (answers n free π)
+  where
+    parts : (c′ : List Part) → IsBest n free π c′ → Dec (length c′ ≡ k) → length c′ ≡ k
+    parts c′ b (yes d) = d
+    parts c′ b (no d) =
+        ⊎-elim
+        (λ (l : length c′ < length c). absurd (omega (arith, fewest c′ (b .chain))))
+        (λ (l : (length c′ ≡ length c) × ((price π c′ < price π c) ⊎ ((price π c′ ≡ price π c) × (position n c′ < position n c)))).
+        l .0 ∙ e)
+        (b .best c h w (λ (q : c ≡ c′). d (sym (ap length q) ∙ e)))
+
+    go : (o : Option (List Part)) → Answers n free π o → (c′ : List Part) × IsBest n free π c′ × (length c′ ≡ k)
+    go none f = absurd (f c h w)
+    go (some c′) b = (c′, b, parts c′ b (ℕ-discrete (length c′) k))
 
 sound : (e : Entry) → T (test e) → Holds e
-unfolding test Holds exactly atLeast
+unfolding test Holds has atLeast
 sound (chains n k) t = eqb→eq (count n) k t
 sound (words n l) t = same-eq (same eqb) (same-eq eqb eqb→eq) (listOf n) l t
-sound (fewest n k) t =
-    let one = some (exactly k) (listOf n) in
+sound (best n k) t =
+    let one = any (has k) (listOf n) in
     let all = every (atLeast k) (listOf n) in
-    let (w, m, e) = some-at (exactly k) (listOf n) (and-l one all t) in (
-      (chainOf w, list-of-chains n w .0 m .1, eqb→eq (length (chainOf w)) k e),
-      λ c h.
-          rw (chain-word-chain c (h .chained))
-          at (leb→le k (length (chainOf (wordOf c)))
-          (every-at (atLeast k) (listOf n) (and-r one all t) (wordOf c) (chain-listed n c h))),
-    )
+    let (w, m, e) = any-at (has k) (listOf n) (and-l one all t) in
+    let size = eqb (length (chainOf w)) k in
+    λ π.
+    best-has n k π (chainOf w)
+    (list-of-chains n w .0 m .1)
+    (within-tested free (chainOf w) .0 (and-r size (isWithin free (chainOf w)) e))
+    (eqb→eq (length (chainOf w)) k (and-l size (isWithin free (chainOf w)) e))
+    (λ c h.
+    rw (chain-word-chain c (h .chained))
+    at (leb→le k (length (chainOf (wordOf c)))
+    (every-at (atLeast k) (listOf n) (and-r one all t) (wordOf c) (chain-listed n c h))))
 
 -- Every entry of the table holds.
 pub checked : (e : Entry) → List·Memᴰ e table → Holds e
-unfolding table test exactly atLeast every some same count listOf wordsAt wordsIn atRest byThird chainOf chainFrom right up
+unfolding table test has atLeast isWithin free every any same count listOf wordsAt wordsIn atRest byThird chainOf chainFrom right up
 checked e m = sound e (every-at test table tt e m)

@@ -14,10 +14,11 @@
 --   PositionsOfChains  the same of chains
 --   Rest       the rest at a point is the floor of n by the point's value
 --   Bounds     how many letters and parts a number below 2^k allows
+--   BestLaws   the best chain as a function is the best of all chains: demand 3
 --   Counts     the six relations of the count, and its bounds
 --   Keys       costs of letters, the cut grid, the best word at a point (definitions)
 --   Bests      the best word from the best words of the half and the third, over any costs
---   BestOfAll  the chain of the best word is the best of all chains: demand 3
+--   BestOfAll  the chain of the best word, by parts and price packed into a key, is the best chain
 --   Checked    the checked numbers of document 01
 pub mod Chains
 pub mod Words
@@ -35,6 +36,7 @@ pub mod Positions
 pub mod PositionsOfChains
 pub mod Rest
 pub mod Bounds
+pub mod BestLaws
 pub mod Counts
 pub mod Keys
 pub mod Bests

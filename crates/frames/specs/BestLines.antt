@@ -11,12 +11,12 @@ use native.Mathlib.Omega.{arith}
 use lib.ListN.{length}
 use Rattle.chains.specs.Chains.{Part}
 use Rattle.chains.specs.Listing.{position}
-use Rattle.chains.specs.Best.{price, IsBest}
+use Rattle.chains.specs.Best.{price, NoneFits, IsBest}
 use Rattle.chains.specs.BestOfAll.{price-fits}
 use Rattle.parts.specs.Parts.{partNumber}
 use Rattle.ranking.specs.Services.{Outcome, refused, gives}
 use Rattle.best.specs.Chosen.{bestOutcome}
-use Rattle.best.specs.Demand3.{NoneFits, given-is-best, refused-none}
+use Rattle.best.specs.Demand3.{given-is-best, refused-none}
 use Rattle.digits.specs.Digits.{digitsOf}
 use Rattle.lines.specs.Kinds.{choosing}
 use Rattle.lines.specs.Lines.{field, fit, shapeOf}
@@ -41,10 +41,10 @@ module _ (line : List ℕ) (f : shapeOf line ≡ fit choosing) where
   reply = reply-fit line choosing f
 
   is-best : (c : List Part) → (asked line ≡ gives (field line 1 8) c) ↔ IsBest (field line 1 8) (limitsIn line) (pricesIn line) c
-  is-best = given-is-best (limitsIn line) (number-low line 1) (prices-cheap line)
+  is-best = given-is-best (field line 1 8) (limitsIn line) (pricesIn line)
 
   none-fits : (asked line ≡ refused 5) ↔ NoneFits (field line 1 8) (limitsIn line)
-  none-fits = refused-none (limitsIn line) (number-low line 1) (prices-cheap line)
+  none-fits = refused-none (field line 1 8) (limitsIn line) (pricesIn line)
 
   pub best-served : (ds : List ℕ) → (replyTo line ≡ servedWith ds) ↔ BestReply line ds
   unfolding pricedReply

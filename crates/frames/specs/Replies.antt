@@ -12,7 +12,7 @@ use Rattle.chains.specs.Best.{Prices, Limits, price}
 use Rattle.parts.specs.Parts.{partNumber}
 use Rattle.lent.specs.Lent.{filled}
 use Rattle.ranking.specs.Services.{Outcome, refused, gives, atPosition, ofWord, nextOf, ofRecord}
-use Rattle.best.specs.Chosen.{limitsOf, pricesOf, bestOutcome}
+use Rattle.best.specs.Chosen.{bestOutcome}
 use Rattle.digits.specs.Digits.{digitsOf}
 use Rattle.lines.specs.Kinds.{Kind, counting, choosing, placing, recording, wording, following}
 use Rattle.lines.specs.Lines.{field, Shape, unfit, fit, shapeOf, lettersIn, numbersIn}
@@ -46,10 +46,10 @@ pricedReply π (gives n c) = servedWith (pricedDigits n (position n c) (map part
 
 -- What a line of kind 02 asks for after n: K, A, B, then d, t, s.
 unfoldable pub limitsIn : List ℕ → Limits
-limitsIn line = limitsOf (field line 9 1) (field line 10 1) (field line 11 1)
+limitsIn line = record { K = field line 9 1; A = field line 10 1; B = field line 11 1 }
 
 unfoldable pub pricesIn : List ℕ → Prices
-pricesIn line = pricesOf (field line 12 2) (field line 14 2) (field line 16 2)
+pricesIn line = record { d = field line 12 2; t = field line 14 2; s = field line 16 2 }
 
 -- The reply to a fit line of a kind, by the services' own definitions.
 unfoldable pub served : Kind → List ℕ → Reply

@@ -2,6 +2,8 @@
 use super::Replied;
 use super::tell;
 use best::Chosen;
+use best::Limits;
+use best::Prices;
 use counting::Counted;
 use ranking::Placed;
 ghost use mathlib.Core.Path.{_≡_};
@@ -39,20 +41,27 @@ pub fn serve_count(line: &[u8], scratch: &mut [u64], out: &mut [u8]) -> Replied
 fn best_in(n: u64, line: &[u8], scratch: &mut [u64], places: &mut [u16]) -> Chosen
     ensures { λ r. ⌜ r
         ≡ chosenOf (pricesIn (now (line .entry)))
-        (lent (now (scratch .entry)) (now (places .entry)) (bestOutcome n (limitsIn (now (line .entry))) (pricesIn (now (line .entry))))) ⌝ }
+        (lent (now (scratch .entry)) (now (places .entry))
+        (bestOutcome n (limitsIn (now (line .entry))) (pricesIn (now (line .entry))))) ⌝ }
     ensures { λ _. ⌜ now (places .exit)
         ≡ placesLeft
-        (lent (now (scratch .entry)) (now (places .entry)) (bestOutcome n (limitsIn (now (line .entry))) (pricesIn (now (line .entry)))))
+        (lent (now (scratch .entry)) (now (places .entry))
+        (bestOutcome n (limitsIn (now (line .entry))) (pricesIn (now (line .entry)))))
         (now (places .entry)) ⌝ }
-    ensures { λ _. ⌜ now (scratch .exit) ≡ scratchLeft (tooLittle 64 (now (scratch .entry)) (now (places .entry))) (now (scratch .entry)) ⌝ }
+    ensures { λ _. ⌜ now (scratch .exit)
+        ≡ scratchLeft (tooLittle 64 (now (scratch .entry)) (now (places .entry))) (now (scratch .entry)) ⌝ }
 {
-    let parts_limit = lines::byte_of(line, 9);
-    let a_limit = lines::byte_of(line, 10);
-    let b_limit = lines::byte_of(line, 11);
-    let d = lines::pair_of(line, 12);
-    let t = lines::pair_of(line, 14);
-    let s = lines::pair_of(line, 16);
-    best::best_chain(n, parts_limit, a_limit, b_limit, d, t, s, scratch, places)
+    let limits = Limits {
+        parts: lines::byte_of(line, 9),
+        doublings: lines::byte_of(line, 10),
+        triplings: lines::byte_of(line, 11),
+    };
+    let prices = Prices {
+        doubling: lines::pair_of(line, 12),
+        tripling: lines::pair_of(line, 14),
+        addition: lines::pair_of(line, 16),
+    };
+    best::best_chain(n, limits, prices, scratch, places)
 }
 
 // 02: the best chain.

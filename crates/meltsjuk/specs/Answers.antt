@@ -35,6 +35,13 @@ countOr (Refused r) x = x
 
 -- ---- the best chain
 
+-- What is asked with: C hands the limits and the prices over as numbers.
+abbrev pub limitsOf : ℕ → ℕ → ℕ → Limits
+limitsOf K A B = record { K = K; A = A; B = B }
+
+abbrev pub pricesOf : ℕ → ℕ → ℕ → Prices
+pricesOf d t s = record { d = d; t = t; s = s }
+
 -- What is asked for: the best chain of n within the limits, and refusal 1 first, where too little is lent.
 abbrev pub bestAsked : List ℕ → List ℕ → ℕ → Limits → Prices → Outcome
 bestAsked scratch places n lim π = lent scratch places (bestOutcome n lim π)

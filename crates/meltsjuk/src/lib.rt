@@ -2,6 +2,8 @@
 // function calls one service and turns its answer into a number, and numbers put where the caller asks. To C a slice is a pointer
 // and a length.
 use best::Chosen;
+use best::Limits;
+use best::Prices;
 use counting::Counted;
 use frames::Replied;
 ghost use mathlib.Core.Path.{_≡_};
@@ -9,10 +11,9 @@ ghost use lib.ListN.{length};
 ghost use Rattle.lent.specs.Lent.{tooLittle, scratchLeft, littleScratch};
 ghost use Rattle.ranking.specs.Services.{placesLeft};
 ghost use Rattle.counting.specs.TableCount.{countedOf};
-ghost use Rattle.best.specs.Chosen.{limitsOf, pricesOf};
 ghost use Rattle.frames.specs.Replies.{outLeft};
 ghost use Rattle.meltsjuk.specs.Answers.{digitsLeft, countStatus, countOr};
-ghost use Rattle.meltsjuk.specs.Answers.{bestAsked, bestStatus, positionOr, partsOr, priceOr};
+ghost use Rattle.meltsjuk.specs.Answers.{limitsOf, pricesOf, bestAsked, bestStatus, positionOr, partsOr, priceOr};
 
 // Replying to one line, without its byte 10, as `frames::reply` does. Answers how many digits of the reply stand in `out`, two
 // where the line is refused; 0 where too little is lent, and nothing is touched.
@@ -86,7 +87,17 @@ pub extern "C" fn meltsjuk_best(
     ensures scratch { λ _. ⌜ now (scratch .exit)
         ≡ scratchLeft (tooLittle 64 (now (scratch .entry)) (now (places .entry))) (now (scratch .entry)) ⌝ }
 {
-    match best::best_chain(n, parts_limit, a_limit, b_limit, d, t, s, scratch, places) {
+    let limits = Limits {
+        parts: parts_limit,
+        doublings: a_limit,
+        triplings: b_limit,
+    };
+    let prices = Prices {
+        doubling: d,
+        tripling: t,
+        addition: s,
+    };
+    match best::best_chain(n, limits, prices, scratch, places) {
         Chosen::Chain {
             position: i,
             k: parts,

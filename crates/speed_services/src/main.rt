@@ -2,6 +2,8 @@
 // SERVICE: 1 count, 2 best chain, 3 chain at a position. Prints a sum over all answers, which speed/plain_services.rs prints too.
 // With no words it does nothing.
 use best::Chosen;
+use best::Limits;
+use best::Prices;
 use counting::Counted;
 use ranking::Found;
 
@@ -55,10 +57,17 @@ fn counted(n: u64, scratch: &mut [u64]) -> u64 {
 
 fn chosen(n: u64, prices: u64, scratch: &mut [u64]) -> u64 {
     let mut places = [0u16; 64];
-    let d = (prices % 65536) as u16;
-    let t = (prices / 65536 % 65536) as u16;
-    let s = (prices / 4294967296 % 65536) as u16;
-    match best::best_chain(n, 64, 63, 40, d, t, s, scratch, &mut places) {
+    let limits = Limits {
+        parts: 64,
+        doublings: 63,
+        triplings: 40,
+    };
+    let asked = Prices {
+        doubling: (prices % 65536) as u16,
+        tripling: (prices / 65536 % 65536) as u16,
+        addition: (prices / 4294967296 % 65536) as u16,
+    };
+    match best::best_chain(n, limits, asked, scratch, &mut places) {
         Chosen::Chain { position, k, price } => digest(position, price, k, &places),
         Chosen::Refused(_) => 0,
     }

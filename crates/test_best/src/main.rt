@@ -4,27 +4,24 @@
 //
 // A line: the position, the number of parts, the price and the part numbers, or the number of the refusal.
 use best::Chosen;
+use best::Limits;
+use best::Prices;
 use libc::STDOUT_FILENO;
 
-// What is asked with: limits on parts, doublings and triplings; prices of a doubling, a tripling and an addition.
-struct Limits {
-    parts: u8,
-    a: u8,
-    b: u8,
+fn at_most(parts: u8, doublings: u8, triplings: u8) -> Limits {
+    Limits {
+        parts,
+        doublings,
+        triplings,
+    }
 }
 
-struct Prices {
-    d: u16,
-    t: u16,
-    s: u16,
-}
-
-fn at_most(parts: u8, a: u8, b: u8) -> Limits {
-    Limits { parts, a, b }
-}
-
-fn priced(d: u16, t: u16, s: u16) -> Prices {
-    Prices { d, t, s }
+fn priced(doubling: u16, tripling: u16, addition: u16) -> Prices {
+    Prices {
+        doubling,
+        tripling,
+        addition,
+    }
 }
 
 // Those of the small numbers, then those of the numbers at the edges, then those of the examples.
@@ -108,10 +105,6 @@ fn print_three(position: u64, k: u64, price: u64) {
     print(price);
 }
 
-fn ask(n: u64, l: Limits, p: Prices, scratch: &mut [u64], places: &mut [u16]) -> Chosen {
-    best::best_chain(n, l.parts, l.a, l.b, p.d, p.t, p.s, scratch, places)
-}
-
 fn wide(x: u16) -> u64 {
     x as u64
 }
@@ -143,7 +136,7 @@ fn print_chosen(chosen: Chosen, places: &[u16]) {
 
 fn tell_dozen(n: u64, scratch: &mut [u64], places: &mut [u16]) {
     for i in 0..12 {
-        let chosen = ask(
+        let chosen = best::best_chain(
             n,
             limits_at(i % 10),
             prices_of((n % 6 + i) % 6),
@@ -217,7 +210,7 @@ fn print_compared(position: u64, chosen: Chosen) {
 
 fn tell_limited(n: u64, need: Need, p: Prices, scratch: &mut [u64], places: &mut [u16]) {
     for i in 0..5 {
-        let chosen = ask(n, variant(i, need), p, scratch, places);
+        let chosen = best::best_chain(n, variant(i, need), p, scratch, places);
         print_compared(need.position, chosen);
         space();
     }
@@ -243,7 +236,7 @@ fn need_of(position: u64, k: u64, i: u64, table: &[u64], places: &[u16]) -> Need
 
 fn tell_around(n: u64, i: u64, table: &[u64], scratch: &mut [u64], places: &mut [u16]) {
     let p = prices_of(i % 6);
-    let chosen = ask(n, limits_at(0), p, scratch, places);
+    let chosen = best::best_chain(n, limits_at(0), p, scratch, places);
     print_chosen(chosen, places);
     end_line();
     let Chosen::Chain {
@@ -335,7 +328,7 @@ fn print_left(chosen: Chosen, scratch: &[u64], places: &[u16]) {
 
 fn tell_left(n: u64, l: Limits, scratch: &mut [u64], places: &mut [u16]) {
     hold(scratch, places);
-    let chosen = ask(n, l, prices_of(0), scratch, places);
+    let chosen = best::best_chain(n, l, prices_of(0), scratch, places);
     print_chosen(chosen, places);
     print_left(chosen, scratch, places);
     end_line();

@@ -3,9 +3,9 @@ use native.Mathlib.Nat.{sub-zero}
 use native.Mathlib.Omega.{arith}
 use borrow.Author.Needs.{needs}
 use Rattle.best.specs.Chosen.{limitsOf, pricesOf}
-use Rattle.best.specs.Choosing.{by-word, by-nothing}
+use Rattle.best.specs.ChoosingLaws.{by-word, by-nothing}
 use Rattle.lent.specs.LentLaws.{little-scratch, little-places}
-use Rattle.best.specs.Placing.{little, none-served, word-served}
+use Rattle.best.specs.PlacingLaws.{little, none-served, place-asked, word-served}
 use Rattle.best.proofs.best_chain.Statement.{statement}
 use Rattle.best.proofs.best_chain.Tie as tie
 
@@ -15,6 +15,20 @@ part-place-end c =
     let h = m .before .before .before .before .before in
     omega (arith, by-word _ _ _ _ _ (h .choose .ensures .0) (m .length .given .1) .room)
 
+place-requires : tie.Need-place-requires
+place-requires c κs =
+    let m = c .before .before .before .before .before in
+    let h = m .before .before .before .before .before in
+    let b = h .before .before .before in
+    let s = b .before .before .before .before in
+    let a = s .args in
+    rw sub-zero
+    (place-asked (pricesOf (a .prices)) (a .n) (limitsOf (a .limits))
+    (record { numbers = b .before .if1 .left; room = b .if2 .left })
+    (by-word _ _ _ _ _ (h .choose .ensures .0) (m .length .given .1))
+    (h .choose .ensures .1)
+    (s .fits .n .fits))
+
 returns-3 : tie.Need-returns-3
 returns-3 c =
     let p = c .before .before .before .before in
@@ -23,9 +37,8 @@ returns-3 c =
     let b = h .before .before .before in
     let s = b .before .before .before .before in
     let a = s .args in
-    word-served (pricesOf (a .d) (a .t) (a .s)) (a .n) (limitsOf (a .parts-limit) (a .a-limit) (a .b-limit))
+    word-served (pricesOf (a .prices)) (a .n) (limitsOf (a .limits))
     (record { numbers = b .before .if1 .left; room = b .if2 .left })
-    (s .fits .n .fits)
     (by-word _ _ _ _ _ (h .choose .ensures .0) (m .length .given .1))
     (h .choose .ensures .1)
     (rw sub-zero at (p .place .ensures .0))
@@ -38,7 +51,7 @@ returns-4 c =
     let h = m .before .before .before .before .before in
     let b = h .before .before .before in
     let a = b .before .before .before .before .args in
-    none-served (pricesOf (a .d) (a .t) (a .s)) (a .n) (limitsOf (a .parts-limit) (a .a-limit) (a .b-limit))
+    none-served (pricesOf (a .prices)) (a .n) (limitsOf (a .limits))
     (record { numbers = b .before .if1 .left; room = b .if2 .left })
     (h .choose .ensures .1)
     (by-nothing _ _ _ _ _ (h .choose .ensures .0) (m .enum-told .given .1))
@@ -56,7 +69,7 @@ best-chain-spec =
     (λ c. search needs)
     (λ c. search needs)
     part-place-end
-    (λ c κs. search needs)
+    place-requires
     (λ c. search needs)
     (λ c. search needs)
     (λ c. search needs)

@@ -4,7 +4,8 @@ use Prim.Native.Nat.{_-_, _/_, _%_, _^_}
 use native.Mathlib.Omega.{arith}
 use borrow.Author.Needs.{needs}
 use lib.ListN.{length-set}
-use Rattle.best.specs.KeyRows.{Below, below-none, below-room, after-fits, below-more}
+use Rattle.best.specs.KeyRows.{Below}
+use Rattle.best.specs.KeyRowsLaws.{below-none, below-room, after-fits, below-more}
 use Rattle.best.proofs.keys.fill_below.Statement.{statement}
 use Rattle.best.proofs.keys.fill_below.Tie as tie
 

@@ -5,7 +5,7 @@ use native.Mathlib.Omega.{arith}
 use borrow.Author.Needs.{needs}
 use lib.ListN.{length-set}
 use Rattle.grid.specs.Fill.{filled-on}
-use Rattle.best.specs.KeyRows.{end-within, within-asked, end-beyond, beyond-asked}
+use Rattle.best.specs.KeyRowsLaws.{end-within, within-asked, end-beyond, beyond-asked}
 use Rattle.best.proofs.keys.fill_live.Statement.{statement}
 use Rattle.best.proofs.keys.fill_live.Tie as tie
 

@@ -2,7 +2,8 @@
 use native.Mathlib.Omega.{arith}
 use mathlib.Core.Path.{_≡_}
 use Prim.Native.Nat.{_-_, _≤_}
-use Rattle.best.specs.KeyRows.{NoKeys, none-more}
+use Rattle.best.specs.KeyRows.{NoKeys}
+use Rattle.best.specs.KeyRowsLaws.{none-more}
 use borrow.Author.Needs.{needs}
 use Rattle.best.proofs.keys.fill_none.Statement.{statement}
 use Rattle.best.proofs.keys.fill_none.Tie as tie

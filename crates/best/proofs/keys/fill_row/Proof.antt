@@ -2,7 +2,7 @@
 use native.Mathlib.Omega.{arith}
 use borrow.Author.Needs.{needs}
 use Rattle.grid.specs.Fill.{dead-columns}
-use Rattle.best.specs.KeyRows.{outside-row, top-of}
+use Rattle.best.specs.KeyRowsLaws.{outside-row, top-of}
 use Rattle.best.proofs.keys.fill_row.Statement.{statement}
 use Rattle.best.proofs.keys.fill_row.Tie as tie
 

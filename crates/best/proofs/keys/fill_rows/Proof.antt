@@ -20,14 +20,16 @@ part-fill-row-start : tie.Need-part-fill-row-start Inv-loop μ-loop
 part-fill-row-start c =
     let l = c .before in
     let s = l .before .before .before in
-    omega (arith, down-room _ (s .pre .asked) (l .before .row-rests .ensures) (l .loop .inv) (l .loop .i - 1) (omega arith) (omega arith))
+    omega
+    (arith, down-room _ (s .pre .asked) (l .before .row-rests .ensures) (l .loop .inv) (l .loop .i - 1) (omega arith) (omega arith))
 
 fill-row-requires : tie.Need-fill-row-requires Inv-loop μ-loop
 fill-row-requires c κs =
     let l = c .before .before in
     let s = l .before .before .before in
     record {
-      asked = down-lent _ (s .pre .asked) (l .before .row-rests .ensures) (l .loop .inv) (l .loop .i - 1) (omega arith) (omega arith);
+      asked =
+          down-lent _ (s .pre .asked) (l .before .row-rests .ensures) (l .loop .inv) (l .loop .i - 1) (omega arith) (omega arith);
       low = s .pre .low;
     }
 

@@ -1,21 +1,24 @@
--- `place` answers what reading the word finds, with the price.
-use mathlib.Core.Path.{sym, ap, _∙_}
+-- `place` answers what reading the word finds, with the price. Reading it is never refused.
+use mathlib.Core.Path.{sym, _∙_}
 use borrow.Author.Needs.{needs}
-use Rattle.best.specs.Placing.{pricedOf}
+use Rattle.best.specs.PlacingLaws.{chain-placed, never-refused, left-placed}
 use Rattle.best.proofs.placing.place.Statement.{statement}
 use Rattle.best.proofs.placing.place.Tie as tie
 
 returns : tie.Need-returns
-unfolding pricedOf
 returns c =
-    let r = c .before .before .before .before .before .before .before .read-word in
-    (ap (pricedOf _) (sym (c .before .position .given .1) ∙ r .ensures .0), r .ensures .1)
+    let m = c .before in
+    let q = m .before .before .before .before .before .before in
+    let r = q .read-word in
+    let h = q .before .before .before .before .before .before .pre in
+    (chain-placed h _ _ _ _ (sym (m .position .given .1) ∙ r .ensures .0), left-placed h (r .ensures .1))
 
 returns-2 : tie.Need-returns-2
-unfolding pricedOf
 returns-2 c =
-    let r = c .before .before .before .before .before .before .before .read-word in
-    (ap (pricedOf _) (sym (c .before .number .given .1) ∙ r .ensures .0), r .ensures .1)
+    let m = c .before in
+    let q = m .before .before .before .before .before .before in
+    let h = q .before .before .before .before .before .before .pre in
+    absurd (never-refused h _ (sym (m .number .given .1) ∙ q .read-word .ensures .0))
 
 pub place-spec : {M : Type 1} → statement M
 place-spec =

@@ -1,5 +1,5 @@
 -- `walk_step` passes one letter of the best word: a rises where its key is no larger, else b.
-use Rattle.best.specs.Walk.{third-asked, half-fits, step-a, step-b}
+use Rattle.best.specs.WalkLaws.{third-asked, half-fits, step-a, step-b}
 use native.Mathlib.Omega.{arith}
 use borrow.Author.Needs.{needs}
 use Rattle.best.proofs.walk.walk_step.Statement.{statement}

@@ -1,5 +1,6 @@
 -- `write_best` writes the best word: the letters up to (a, b) are written, and at most 64 - (a + b) are left.
-use Rattle.best.specs.Walk.{KeyWriting, walk-start, step-asked, walk-more, walk-end}
+use Rattle.best.specs.Walk.{KeyWriting}
+use Rattle.best.specs.WalkLaws.{walk-start, step-asked, walk-more, walk-end}
 use lib.ListN.{length-set}
 use native.Mathlib.Omega.{arith}
 use Prim.Native.Nat.{_+_, _-_}
