@@ -32,6 +32,7 @@ use Rattle.ranking.specs.Services.{ofRecord}
 
 -- ---- refusals
 
+-- Refusals of different numbers differ, and a chain is no refusal.
 pub same-refusal : (r s : ℕ) → refused r ≡ refused s → r ≡ s
 same-refusal r s e = cc
 

@@ -20,7 +20,7 @@ use Rattle.chains.specs.Rest.{pointAfter}
 use Rattle.chains.specs.Bounds.{point-at-most}
 use Rattle.chains.specs.Readers.{readers-good}
 use Rattle.chains.specs.RoundTrip.{chain-word-chain, word-reads}
-use Rattle.lent.specs.Lent.{scratchSize, tooLittle, Enough}
+use Rattle.lent.specs.Lent.{scratchSize, Enough}
 use Rattle.lent.specs.LentLaws.{scratch-little, little-scratch, little-places}
 use Rattle.words.specs.Records.{recordParts, Burned, judgedOf}
 use Rattle.words.specs.RecordLaws.{judged-sum}
@@ -36,6 +36,7 @@ use Rattle.ranking.specs.declared.Found.the-variants as found
 
 -- ---- reading a word
 
+-- The outcome, and what reading a word answers.
 pub word-refusals : (w : Word) → WordRefusals w (λ r. ofWord w ≡ refused r)
 unfolding ofWord
 word-refusals w =
@@ -76,6 +77,7 @@ pub record NextRefusals (w : Word) (refused : ℕ → Type 0) : Type 0 where
       × (position (total (chainOf w)) (chainOf w) + 1 ≡ count (total (chainOf w))))
   pub no-other : (r : ℕ) → refused r → (r ≡ 7) ⊎ ((r ≡ 10) ⊎ (r ≡ 11))
 
+-- The outcome, and what asking for the next chain answers.
 module _ (w : Word) where
   -- The word can be read, and its chain is the last in its list.
   abbrev Last : Type 0
@@ -103,7 +105,7 @@ module _ (w : Word) where
   next-last-word (good, fits, last) =
       rw (word-given w .1 (good, fits)) (after-last (total (chainOf w)) (chainOf w) (omega arith))
 
-  -- Next asks first what reading the word does.
+  -- Any refusal but 11 is that of reading the word.
   as-read : (r : ℕ) → ¬ (r ≡ 11) → (nextOf (ofWord w) ≡ refused r) ↔ (ofWord w ≡ refused r)
   as-read r n = (
     λ e. ⊎-elim (λ (f : ofWord w ≡ refused r). f) (λ (g : (r ≡ 11) × Last). absurd (n (g .0))) (next-cases r e),
@@ -146,6 +148,7 @@ module _ (w : Word) where
 
 -- ---- reading a record
 
+-- The outcome, and what reading a record answers.
 pub record-refusals : (l : List ℕ) → RecordRefusals l (λ r. ofRecord l ≡ refused r)
 unfolding ofRecord judgedAs
 record-refusals l = record-lifted (λ r. as-judged r (judgedOf l)) (judged-refusals l)
@@ -175,21 +178,23 @@ record-given l n = Iff·trans (as-judged (judgedOf l)) (judged-sum l n)
 
 -- ---- too little is lent
 
+-- The scratch is under 5,248 numbers, or the places are under 64.
+abbrev Little : List ℕ → List ℕ → Type 0
+Little s p = (length s < scratchSize) ⊎ (length p < 64)
+
 -- Where the outcome itself is not refused with 1: a service with places, and one that is lent a scratch alone.
-found-too-little : (s p : List ℕ) (o : Outcome) → ¬ (o ≡ refused 1)
-    → (answerOf (lent s p o) ≡ found.Refused 1) ↔ (¬ Enough 64 s p)
+found-too-little : (s p : List ℕ) (o : Outcome) → ¬ (o ≡ refused 1) → (answerOf (lent s p o) ≡ found.Refused 1) ↔ Little s p
 unfolding answerOf lent
 found-too-little s p o n = by-sizes (decLt (length s) scratchSize) (decLt (length p) 64)
   where
-    little : tooLittle 64 s p ≡ true → ¬ Enough 64 s p → (answerOf (lent s p o) ≡ found.Refused 1) ↔ (¬ Enough 64 s p)
-    little e m = (λ _. m, λ _. rw e refl)
-
-    by-sizes : Dec (length s < scratchSize) → Dec (length p < 64) → (answerOf (lent s p o) ≡ found.Refused 1) ↔ (¬ Enough 64 s p)
-    by-sizes (yes h) d = little (little-scratch 64 s p h) (λ (e : Enough 64 s p). omega (arith, e .numbers))
-    by-sizes (no h) (yes k) = little (little-places 64 s p k) (λ (e : Enough 64 s p). omega (arith, e .room))
+    by-sizes : Dec (length s < scratchSize) → Dec (length p < 64) → (answerOf (lent s p o) ≡ found.Refused 1) ↔ Little s p
+    by-sizes (yes h) d = (λ _. inl h, λ _. rw (little-scratch 64 s p h) refl)
+    by-sizes (no h) (yes k) = (λ _. inr k, λ _. rw (little-places 64 s p k) refl)
     by-sizes (no h) (no k) =
-        let e : Enough 64 s p = record { numbers = omega arith; room = omega arith } in
-        (λ f. absurd (n (found-refused s p e o 1 .0 f)), λ m. absurd (m e))
+        let e : Enough 64 s p = record { numbers = omega arith; room = omega arith } in (
+          λ f. absurd (n (found-refused s p e o 1 .0 f)),
+          ⊎-elim (λ (l : length s < scratchSize). absurd (h l)) (λ (l : length p < 64). absurd (k l)),
+        )
 
 placed-too-little : (s : List ℕ) (o : Outcome) → ¬ (o ≡ refused 1)
     → (placedOf (lentScratch s o) ≡ placed.Refused 1) ↔ (length s < scratchSize)
@@ -202,19 +207,19 @@ placed-too-little s o n = by-size (decLt (length s) scratchSize)
 
 -- So each service is refused with 1 exactly where too little is lent.
 module _ (s p : List ℕ) where
-  pub read-word-too-little : (w : Word) → (answerOf (lent s p (ofWord w)) ≡ found.Refused 1) ↔ (¬ Enough 64 s p)
+  pub read-word-too-little : (w : Word) → (answerOf (lent s p (ofWord w)) ≡ found.Refused 1) ↔ Little s p
   read-word-too-little w =
       found-too-little s p (ofWord w)
       (λ e. ⊎-elim (λ (f : 1 ≡ 7). omega arith) (λ (f : 1 ≡ 10). omega arith) (word-refusals w .no-other 1 e))
 
-  pub next-chain-too-little : (w : Word) → (answerOf (lent s p (nextOf (ofWord w))) ≡ found.Refused 1) ↔ (¬ Enough 64 s p)
+  pub next-chain-too-little : (w : Word) → (answerOf (lent s p (nextOf (ofWord w))) ≡ found.Refused 1) ↔ Little s p
   next-chain-too-little w =
       found-too-little s p (nextOf (ofWord w))
       (λ e.
       ⊎-elim (λ (f : 1 ≡ 7). omega arith)
       (⊎-elim (λ (f : 1 ≡ 10). omega arith) (λ (f : 1 ≡ 11). omega arith)) (next-refusals w .no-other 1 e))
 
-  pub chain-at-too-little : (n i : ℕ) → (answerOf (lent s p (atPosition n i)) ≡ found.Refused 1) ↔ (¬ Enough 64 s p)
+  pub chain-at-too-little : (n i : ℕ) → (answerOf (lent s p (atPosition n i)) ≡ found.Refused 1) ↔ Little s p
   unfolding atPosition
   chain-at-too-little n i = found-too-little s p (atPosition n i) (λ e. omega (arith, standing-refused 6 n i 1 .0 e .0))
 

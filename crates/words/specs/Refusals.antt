@@ -24,7 +24,7 @@ use Rattle.words.specs.declared.Judged.the-variants as judged
 use Rattle.words.specs.declared.Written.the-variants as written
 use Rattle.words.specs.declared.Parted.the-variants as parted
 
--- A test that fails: the other way round.
+-- What a test for "below" says where it fails.
 not-below : (n k : ℕ) → (¬ T (ltb n k)) ↔ (k ≤ n)
 not-below n k = (λ h. at-least (λ l. h (lt→ltb n k l)), λ l t. omega (arith, ltb→lt n k t))
   where
@@ -40,7 +40,7 @@ pub record WordRefusals (w : Word) (refused : ℕ → Type 0) : Type 0 where
   pub refusal-10 : refused 10 ↔ (Good w × (2 ^ 64 ≤ total (chainOf w)))
   pub no-other : (r : ℕ) → refused r → (r ≡ 7) ⊎ (r ≡ 10)
 
--- The same of an answer that is refused when the first one is.
+-- The same of an answer that is refused exactly when another one is.
 pub word-lifted : {w : Word} {p q : ℕ → Type 0} → ((r : ℕ) → q r ↔ p r) → WordRefusals w p → WordRefusals w q
 word-lifted f h = record {
   refusal-7 = Iff·trans (f 7) (h .refusal-7);
@@ -120,6 +120,7 @@ pub record RecordRefusals (l : List ℕ) (refused : ℕ → Type 0) : Type 0 whe
   pub refusal-10 : refused 10 ↔ ((¬ Outside l) × Chained (recordParts l) × (2 ^ 64 ≤ total (recordParts l)))
   pub no-other : (r : ℕ) → refused r → (r ≡ 8) ⊎ ((r ≡ 9) ⊎ (r ≡ 10))
 
+-- The same of an answer that is refused exactly when another one is.
 pub record-lifted : {l : List ℕ} {p q : ℕ → Type 0} → ((r : ℕ) → q r ↔ p r) → RecordRefusals l p → RecordRefusals l q
 record-lifted f h = record {
   refusal-8 = Iff·trans (f 8) (h .refusal-8);
@@ -128,7 +129,7 @@ record-lifted f h = record {
   no-other = λ r e. h .no-other r (f r .0 e);
 }
 
--- A number of 1,344 or more is somewhere in the record.
+-- The test for a number of 1,344 or more.
 beyond-test : (l : List ℕ) → T (beyond l) ↔ ((i : ℕ) × (i < length l) × (1344 ≤ getD l i 0))
 unfolding beyond
 beyond-test [] = (absurd, λ h. absurd (omega (arith, h .1)))
@@ -145,6 +146,7 @@ beyond-test (x ∷ l) = by-first (leb 1344 x) refl (beyond-test l)
         later (zero, b, g) = absurd (rw e at (le→leb 1344 x g))
         later (suc i, b, g) = h .1 (i, omega arith, g)
 
+-- The three tests of a record, each as what it tests.
 outside-test : (l : List ℕ) → T (ltb 64 (length l) || beyond l) ↔ Outside l
 unfolding Outside
 outside-test l = by-length (ltb 64 (length l)) (ltb→lt 64 (length l), lt→ltb 64 (length l)) (beyond-test l)
@@ -187,7 +189,7 @@ module _ (l : List ℕ) where
   sum = judged.Sum (total c)
 
   abbrev summed : Judged
-  summed = cond over (refuse 10) (sum)
+  summed = cond over (refuse 10) sum
 
   abbrev inside : Judged
   inside = cond loose (refuse 9) summed
@@ -201,7 +203,7 @@ module _ (l : List ℕ) where
   summed-only : (r : ℕ) → summed ≡ refuse r → r ≡ 10
   summed-only r e =
       ⊎-elim (λ (f : refuse 10 ≡ refuse r). sym (same 10 r f)) (λ (f : sum ≡ refuse r). absurd (no-sum r f))
-      (one-of-both over (refuse 10) (sum) (refuse r) e)
+      (one-of-both over (refuse 10) sum (refuse r) e)
 
   inside-only : (r : ℕ) → inside ≡ refuse r → (r ≡ 9) ⊎ (r ≡ 10)
   inside-only r e =
@@ -227,7 +229,7 @@ module _ (l : List ℕ) where
             (Iff·not (outside-test l))
             (Iff·trans (in-second loose (refuse 9) summed (refuse 10) (λ e. omega (arith, same 9 10 e)))
             (Iff·and (is-chained c)
-            (Iff·trans (is-first over (refuse 10) (sum) (no-sum 10)) (leb→le limit (total c), le→leb limit (total c))))));
+            (Iff·trans (is-first over (refuse 10) sum (no-sum 10)) (leb→le limit (total c), le→leb limit (total c))))));
         no-other =
             λ r e.
             ⊎-elim (λ (f : refuse 8 ≡ refuse r). inl (sym (same 8 r f))) (λ (f : inside ≡ refuse r). inr (inside-only r f))
