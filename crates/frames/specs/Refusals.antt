@@ -22,8 +22,8 @@ use Rattle.words.specs.Records.{recordParts, beyond, chainedTest, judgedOf}
 use Rattle.ranking.specs.Services.{Outcome, refused, gives, standing, atPosition, ofWord, after, nextOf, judgedAs, ofRecord}
 use Rattle.best.specs.Chosen.{orNone, bestOutcome}
 use Rattle.digits.specs.Digits.{allDigits}
-use Rattle.lines.specs.Kinds.{Kind, counting, choosing, placing, recording, wording, following, kindOf, bytesIn}
-use Rattle.lines.specs.Lines.{Shape, unfit, fit, field, lettersIn, numbersIn, badLength, shapeOfKind, shapeOf}
+use Rattle.lines.specs.Kinds.{Kind, count-line, best-line, at-line, record-line, word-line, next-line, kindOf}
+use Rattle.lines.specs.Lines.{Shape, unfit, fit, field, bytesIn, itemsIn, badLength, shapeOfKind, shapeOf}
 use Rattle.frames.specs.Replies.{Reply, refusedAs, servedWith, chainReply, pricedReply, limitsIn, pricesIn, served}
 use Rattle.frames.specs.Replies.{replyByShape, replyTo}
 
@@ -126,16 +126,16 @@ of-shape line = go (badLength (length line)) (allDigits line) (kindOf (field lin
     go true digits k = (omega arith, omega arith)
     go false false k = (omega arith, omega arith)
     go false true none = (omega arith, omega arith)
-    go false true (some k) = of-kind k (eqb (length line) (2 * bytesIn k (field line 1 1)))
+    go false true (some k) = of-kind k (eqb (length line) (2 * bytesIn k line))
 
 of-served : (k : Kind) (line : List ℕ) → ReplyOfLines (served k line)
 unfolding served
-of-served counting line = tt
-of-served choosing line = of-priced (pricesIn line) _ (of-best (field line 1 8) (limitsIn line) (pricesIn line))
-of-served placing line = of-chain _ (at-position (field line 1 8) (field line 9 8))
-of-served recording line = of-chain _ (of-record (numbersIn line))
-of-served wording line = of-chain _ (of-word (lettersIn line))
-of-served following line = of-chain _ (of-next (ofWord (lettersIn line)) (of-word (lettersIn line)))
+of-served count-line line = tt
+of-served best-line line = of-priced (pricesIn line) _ (of-best (field line 1 8) (limitsIn line) (pricesIn line))
+of-served at-line line = of-chain _ (at-position (field line 1 8) (field line 9 8))
+of-served record-line line = of-chain _ (of-record (itemsIn record-line line))
+of-served word-line line = of-chain _ (of-word (itemsIn word-line line))
+of-served next-line line = of-chain _ (of-next (ofWord (itemsIn next-line line)) (of-word (itemsIn next-line line)))
 
 of-reply : (line : List ℕ) → ReplyOfLines (replyTo line)
 unfolding replyTo replyByShape

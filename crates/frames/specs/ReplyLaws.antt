@@ -29,8 +29,8 @@ use Rattle.best.specs.KeyTable.{Cheap}
 use Rattle.best.specs.Demand3.{given-is-best}
 use Rattle.digits.specs.Digits.{isWritten, every, digitsOf}
 use Rattle.digits.specs.DigitLaws.{every-append, length-digits, written-digits}
-use Rattle.lines.specs.Kinds.{Kind, counting, choosing, placing, recording, wording, following, kindOf}
-use Rattle.lines.specs.Lines.{field, Shape, unfit, fit, shapeOf, lettersIn, numbersIn}
+use Rattle.lines.specs.Kinds.{Kind, count-line, best-line, at-line, record-line, word-line, next-line, kindOf}
+use Rattle.lines.specs.Lines.{field, itemsIn, Shape, unfit, fit, shapeOf}
 use Rattle.lines.specs.LineLaws.{field-below, fit-line, reply-515}
 use Rattle.lines.specs.Stream.{unbroken}
 use Rattle.lines.specs.StreamLaws.{digits-unbroken}
@@ -129,24 +129,24 @@ prices-cheap line =
 
 -- The kinds whose replies end with the part numbers: 03 to 06.
 unfoldable pub endsWithChain : Kind → Bool
-endsWithChain counting = false
-endsWithChain choosing = false
-endsWithChain placing = true
-endsWithChain recording = true
-endsWithChain wording = true
-endsWithChain following = true
+endsWithChain count-line = false
+endsWithChain best-line = false
+endsWithChain at-line = true
+endsWithChain record-line = true
+endsWithChain word-line = true
+endsWithChain next-line = true
 
 pub served-chain : (k : Kind) (line : List ℕ) → T (endsWithChain k) → (o : Outcome) × Sound o × (served k line ≡ chainReply o)
 unfolding endsWithChain served
-served-chain counting line t = absurd t
-served-chain choosing line t = absurd t
-served-chain placing line t =
+served-chain count-line line t = absurd t
+served-chain best-line line t = absurd t
+served-chain at-line line t =
     let n = field line 1 8 in
     let i = field line 9 8 in
     (atPosition n i, at-sound n i (number-low line 1), refl)
-served-chain recording line t = (ofRecord (numbersIn line), record-sound (numbersIn line), refl)
-served-chain wording line t = (ofWord (lettersIn line), word-sound (lettersIn line), refl)
-served-chain following line t = (nextOf (ofWord (lettersIn line)), next-sound (lettersIn line), refl)
+served-chain record-line line t = (ofRecord (itemsIn record-line line), record-sound (itemsIn record-line line), refl)
+served-chain word-line line t = (ofWord (itemsIn word-line line), word-sound (itemsIn word-line line), refl)
+served-chain next-line line t = (nextOf (ofWord (itemsIn next-line line)), next-sound (itemsIn next-line line), refl)
 
 -- ---- every reply is a frame
 
@@ -212,14 +212,14 @@ served-frame k line = go k
     by-chain j t = let (o, sound, e) = served-chain j line t in rw e (outcome-frame o sound)
 
     go : (j : Kind) → Frame (digitsIn (served j line))
-    go counting = count-frame (count (field line 1 8))
-    go choosing =
+    go count-line = count-frame (count (field line 1 8))
+    go best-line =
         outcome-priced (bestOutcome (field line 1 8) (limitsIn line) (pricesIn line))
         (best-sound (field line 1 8) (limitsIn line) (pricesIn line) (number-low line 1) (prices-cheap line)) (pricesIn line)
-    go placing = by-chain placing tt
-    go recording = by-chain recording tt
-    go wording = by-chain wording tt
-    go following = by-chain following tt
+    go at-line = by-chain at-line tt
+    go record-line = by-chain record-line tt
+    go word-line = by-chain word-line tt
+    go next-line = by-chain next-line tt
 
 pub reply-frame : (line : List ℕ) → Frame (replyOf line)
 unfolding replyOf replyTo replyByShape digitsIn

@@ -12,7 +12,7 @@ use Rattle.chains.specs.Listing.{count}
 use Rattle.counting.specs.TableCount.{countedOf}
 use Rattle.counting.specs.declared.Counted.{Counted}
 use Rattle.counting.specs.declared.Counted.the-variants as counted
-use Rattle.lines.specs.Kinds.{counting}
+use Rattle.lines.specs.Kinds.{count-line}
 use Rattle.lines.specs.Lines.{field}
 use Rattle.lines.specs.LineLaws.{field-fits}
 use Rattle.frames.specs.ReplyDigits.{countDigits}
@@ -28,7 +28,7 @@ module _ (s : List ℕ) (n : ℕ) (a : Counted) (room : scratchSize ≤ length s
   answer = e ∙ counted-served n s room
 
   count-handled : (line s′ out out′ : List ℕ) (x : ℕ) (r : Replied) → a ≡ counted.Count x → n ≡ field line 1 8 % 2 ^ 64 → s′ ≡ scratchLeft (littleScratch s) s
-      → Told (servedWith (countDigits x)) r out out′ → Handled (served counting line) r s s′ out out′
+      → Told (servedWith (countDigits x)) r out out′ → Handled (served count-line line) r s s′ out out′
   unfolding served
   count-handled line s′ out out′ x r f read left told =
       let same : x ≡ count n = cc answer in
