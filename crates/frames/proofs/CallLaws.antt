@@ -26,7 +26,8 @@ use Rattle.lines.specs.Lines.{itemsIn, readItems, itemsCode, itemsLeft}
 use Rattle.lines.specs.LineLaws.{Fit, items-fit}
 use Rattle.lines.specs.declared.Items.{Items}
 use Rattle.lines.specs.declared.Items.the-variants as told
-use Rattle.frames.specs.Put.{putAt, at-start, put-filled}
+use Rattle.frames.specs.Put.{putAt}
+use Rattle.frames.specs.PutLaws.{at-start, put-filled}
 use Rattle.frames.specs.ReplyDigits.{chainDigits}
 use Rattle.frames.specs.Replies.{refusedAs, servedWith, digitsIn, chainReply, repliedOf}
 use Rattle.frames.specs.Calls.{Told, Handled, partsIn, foundReply}

@@ -11,7 +11,8 @@ use lib.Seq.{take-at, drop-append-add}
 use Rattle.digits.specs.Digits.{digitsOf}
 use Rattle.digits.specs.DigitLaws.{length-digits, number-digits}
 use Rattle.lines.specs.Lines.{field, fields}
-use Rattle.frames.specs.ReplyDigits.{countDigits, valuesDigits, numbersDigits, headDigits, chainDigits, pricedDigits, length-head, length-chain}
+use Rattle.frames.specs.ReplyDigits.{countDigits, valuesDigits, numbersDigits, headDigits, headBytes, chainDigits, pricedDigits}
+use Rattle.frames.specs.ReplyDigitLaws.{length-head, length-chain}
 
 -- ---- one field
 
@@ -64,7 +65,7 @@ pub record ChainRead (n position : ℕ) (numbers ds : List ℕ) : Type 0 where
   pub number : field ds 1 8 ≡ n
   pub place : field ds 9 8 ≡ position
   pub parts : field ds 17 1 ≡ length numbers
-  pub each : fields ds 18 2 (length numbers) ≡ numbers
+  pub each : fields ds headBytes 2 (length numbers) ≡ numbers
 
 module _ (n position : ℕ) (numbers rest : List ℕ) (f : n < 2 ^ 64) (g : position < 2 ^ 64) (few : length numbers ≤ 64) (fit : Fitting 2 numbers) where
   pub chain-read : ChainRead n position numbers (chainDigits n position numbers ++ rest)
@@ -86,15 +87,15 @@ module _ (n position : ℕ) (numbers rest : List ℕ) (f : n < 2 ^ 64) (g : posi
         place = after-b 0 8 ∙ field-first 8 position (d ++ (e ++ rest)) (omega arith);
         parts = after-b 8 1 ∙ field-after 8 0 1 c (d ++ (e ++ rest)) (length-digits 16 position) ∙ field-first 1 (length numbers) (e ++ rest) (omega arith);
         each = rw (append-assoc (a ++ b ++ c ++ d) e rest)
-            (fields-after 18 0 2 (length numbers) (a ++ b ++ c ++ d) (e ++ rest) (length-head n position (length numbers)) ∙ fields-first 2 numbers rest fit);
+            (fields-after headBytes 0 2 (length numbers) (a ++ b ++ c ++ d) (e ++ rest) (length-head n position numbers) ∙ fields-first 2 numbers rest fit);
       }
 
 -- The price follows the last part number.
 pub price-read : (n position : ℕ) (numbers : List ℕ) (price : ℕ) → price < 2 ^ 32
-    → field (pricedDigits n position numbers price) (18 + 2 * length numbers) 4 ≡ price
+    → field (pricedDigits n position numbers price) (headBytes + 2 * length numbers) 4 ≡ price
 unfolding pricedDigits
 price-read n position numbers price h =
-    let at = 18 + 2 * length numbers in
+    let at = headBytes + 2 * length numbers in
     let ds = chainDigits n position numbers in
-    let long : length ds ≡ 2 * at = omega (arith, length-chain n position numbers) in
+    let long : length ds ≡ 2 * at = length-chain n position numbers in
     rw (← append-nil (digitsOf 8 price), ← add-zero at) (field-after at 0 4 ds (digitsOf 8 price ++ []) long ∙ field-first 4 price [] (omega arith))

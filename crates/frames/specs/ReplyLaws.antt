@@ -1,7 +1,7 @@
 -- Theory of the reply to a line.
 --
 -- In this order: a line's first 515 characters (`first-515`); replies by their kind; the chains of replies are chains of n; every
--- reply is an even number of digits, at least 2 and at most 300, all of them as they are written (`reply-frame`), so that it is one
+-- reply is an even number of digits, at least 2 and at most 514, all of them as they are written (`reply-frame`), so that it is one
 -- line (`reply-unbroken`); what a chain's reply is read back as (`reply-read`). That replies lead to each other, as demand 2 asks,
 -- is in LineTrips; demand 3 is in BestLines.
 use mathlib.Core.Path.{_≡_, refl}
@@ -34,7 +34,8 @@ use Rattle.lines.specs.Lines.{field, itemsIn, Shape, unfit, fit, shapeOf}
 use Rattle.lines.specs.LineLaws.{field-below, fit-line, reply-515}
 use Rattle.lines.specs.Stream.{unbroken}
 use Rattle.lines.specs.StreamLaws.{digits-unbroken}
-use Rattle.frames.specs.ReplyDigits.{countDigits, headDigits, chainDigits, pricedDigits, length-count, length-chain, length-priced, every-values}
+use Rattle.frames.specs.ReplyDigits.{countDigits, headDigits, headBytes, chainDigits, pricedDigits}
+use Rattle.frames.specs.ReplyDigitLaws.{length-count, length-chain, length-priced, every-values}
 use Rattle.frames.specs.ReadBack.{Fitting, ChainRead, chain-read}
 use Rattle.frames.specs.Replies.{servedWith, digitsIn, chainReply, pricedReply, limitsIn, pricesIn, served, replyByShape, replyTo, replyOf}
 
@@ -150,14 +151,14 @@ served-chain next-line line t = (nextOf (ofWord (itemsIn next-line line)), next-
 
 -- ---- every reply is a frame
 
--- Whole bytes, at least one and at most 150, in digits as they are written.
+-- Whole bytes, at least one and at most as many as are lent for a reply, in digits as they are written.
 pub record Frame (ds : List ℕ) : Type 0 where
   pub even : length ds % 2 ≡ 0
   pub least : 2 ≤ length ds
-  pub most : length ds ≤ 300
+  pub most : length ds ≤ 514
   pub digits : every isWritten ds ≡ true
 
-frame : (k : ℕ) (ds : List ℕ) → length ds ≡ 2 * k → 1 ≤ k → k ≤ 150 → every isWritten ds ≡ true → Frame ds
+frame : (k : ℕ) (ds : List ℕ) → length ds ≡ 2 * k → 1 ≤ k → k ≤ 257 → every isWritten ds ≡ true → Frame ds
 frame k ds n h g w = record { even = omega arith; least = omega arith; most = omega arith; digits = w }
 
 refusal-frame : (r : ℕ) → Frame (digitsOf 2 r)
@@ -175,13 +176,13 @@ module _ (n position : ℕ) (numbers : List ℕ) (few : length numbers ≤ 64) w
   chain-frame : Frame (chainDigits n position numbers)
   chain-frame =
       let k = length-chain n position numbers in
-      frame (18 + 2 * length numbers) (chainDigits n position numbers) (omega arith) (omega arith) (omega arith) written-chain
+      frame (headBytes + 2 * length numbers) (chainDigits n position numbers) k (omega arith) (omega arith) written-chain
 
   priced-frame : (price : ℕ) → Frame (pricedDigits n position numbers price)
   unfolding pricedDigits
   priced-frame price =
       let k = length-priced n position numbers price in
-      frame (22 + 2 * length numbers) (pricedDigits n position numbers price) (omega arith) (omega arith) (omega arith)
+      frame (headBytes + 2 * length numbers + 4) (pricedDigits n position numbers price) k (omega arith) (omega arith)
       (simp (every-append, written-digits, written-chain))
 
 module _ (o : Outcome) (s : Sound o) where
@@ -231,7 +232,7 @@ reply-frame line = go (shapeOf line)
 
 -- So it fits into the bytes that are lent for it.
 pub reply-short : (line : List ℕ) → length (replyOf line) ≤ 514
-reply-short line = omega (arith, reply-frame line .most)
+reply-short line = reply-frame line .most
 
 -- And no byte 10 is in it.
 pub reply-unbroken : (line : List ℕ) → unbroken (replyOf line) ≡ true
