@@ -22,8 +22,8 @@ use Rattle.ranking.specs.declared.Found.the-variants as found
 use Rattle.digits.specs.Digits.{digitsOf}
 use Rattle.digits.specs.DigitLaws.{length-digits}
 use Rattle.lines.specs.Kinds.{Kind, rowOf}
-use Rattle.lines.specs.Lines.{itemsIn, readItems, itemsCode, itemsLeft}
-use Rattle.lines.specs.LineLaws.{Fit, items-fit}
+use Rattle.lines.specs.Lines.{itemsIn, readItems, itemsCode, itemsLeft, Fit}
+use Rattle.lines.specs.LineLaws.{items-fit}
 use Rattle.lines.specs.declared.Items.{Items}
 use Rattle.lines.specs.declared.Items.the-variants as told
 use Rattle.frames.specs.Put.{putAt}

@@ -3,7 +3,7 @@
 --   Replies      the reply to a line, and what a call answers and leaves behind: the definitions that the contract rests on
 --   ReadBack     digits that were written, read back as fields
 --   ReplyLaws    515 characters; every reply is a frame; a chain's reply read back
---   Refusals     a line is refused with 2 to 11 only
+--   Refusals     which numbers a line is refused with, kind by kind
 --   LineTrips    demand 2, line by line
 --   BestLines    demand 3, line by line
 --   Put, Calls   what the functions inside this crate ask for and leave; PutLaws is the theory of digits put one after the other

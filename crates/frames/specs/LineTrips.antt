@@ -26,8 +26,8 @@ use Rattle.ranking.specs.Outcomes.{at-past, at-chain, of-chain, next-below, nex
 use Rattle.digits.specs.Digits.{isDigit, every, allDigits, digitsOf}
 use Rattle.digits.specs.DigitLaws.{every-append, length-digits, allDigits-digits}
 use Rattle.lines.specs.Kinds.{Kind, count-line, best-line, at-line, record-line, word-line, next-line, rowOf, kindOf}
-use Rattle.lines.specs.Lines.{field, fields, countIn, bytesIn, itemsIn}
-use Rattle.lines.specs.LineLaws.{Fit, line-fit, kind-byte, row-small}
+use Rattle.lines.specs.Lines.{field, fields, countIn, bytesIn, itemsIn, Fit}
+use Rattle.lines.specs.LineLaws.{line-fit, kind-byte, row-small}
 use Rattle.frames.specs.ReplyDigits.{valuesDigits, headBytes, chainDigits}
 use Rattle.frames.specs.ReplyDigitLaws.{length-values, every-values}
 use Rattle.frames.specs.ReadBack.{Fitting, field-after, field-first, fields-after, fields-first, ChainRead}

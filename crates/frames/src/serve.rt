@@ -12,7 +12,7 @@ ghost use Rattle.best.specs.Chosen.{bestOutcome, chosenOf};
 ghost use Rattle.frames.specs.Calls.{Handled, FitAs};
 ghost use Rattle.frames.specs.Replies.{refusedAs, limitsIn, pricesIn, served, replyTo};
 ghost use Rattle.lines.specs.Kinds.{count-line, best-line, at-line, record-line, word-line, next-line};
-ghost use Rattle.lines.specs.LineLaws.{Fit};
+ghost use Rattle.lines.specs.Lines.{Fit};
 
 // A line that is refused: the scratch is zeroed as on success.
 pub fn serve_refusal(number: u8, scratch: &mut [u64], out: &mut [u8]) -> Replied

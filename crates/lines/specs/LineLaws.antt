@@ -17,8 +17,8 @@ use Rattle.digits.specs.Digits.{valueOr0, allDigits, numberOf, readFrom}
 use Rattle.digits.specs.DigitLaws.{number-below, number-fits}
 use Rattle.lines.specs.Kinds.{Kind, count-line, best-line, at-line, record-line, word-line, next-line, Row, rowOf, kinds}
 use Rattle.lines.specs.Kinds.{kindAmong, kindOf}
-use Rattle.lines.specs.Lines.{field, fields, bytesIn, itemsIn, Shape, unfit, fit, badLength, shapeOfKind, shapeOf, shapeCode}
-use Rattle.lines.specs.Lines.{unread, read, itemsOfKind, readItems}
+use Rattle.lines.specs.Lines.{field, fields, bytesIn, itemsIn, Shape, unfit, fit, badLength, Proper, shapeOfKind, shapeOf, shapeCode}
+use Rattle.lines.specs.Lines.{Fit, unread, read, itemsOfKind, readItems}
 use Rattle.lines.specs.declared.Shape.the-variants as answer
 
 -- ---- one field
@@ -151,12 +151,6 @@ row-small k =
 
 -- ---- lengths
 
--- A length that is not refused in general: some characters, an even number, at most 514.
-pub record Proper (n : ℕ) : Type 0 where
-  pub some-there : 0 < n
-  pub even : n % 2 ≡ 0
-  pub most : n ≤ 514
-
 pub bad-none : (n : ℕ) → n ≡ 0 → badLength n ≡ true
 unfolding badLength
 bad-none n h = rw (eq-eqb n 0 h)
@@ -216,13 +210,6 @@ module _ (line : List ℕ) (o : Option Kind) (k : Kind) (e : o ≡ some k) where
   pub fit-kind-length : length line ≡ 2 * bytesIn k line → shapeOfKind line o ≡ fit k
   unfolding shapeOfKind
   fit-kind-length h = rw (e, eq-eqb (length line) (2 * bytesIn k line) h)
-
--- What is known of a line that is fit.
-pub record Fit (line : List ℕ) (k : Kind) : Type 0 where
-  pub proper : Proper (length line)
-  pub digits : allDigits line ≡ true
-  pub kind : kindOf (field line 0 1) ≡ some k
-  pub long : length line ≡ 2 * bytesIn k line
 
 pub line-fit : (line : List ℕ) (k : Kind) → Fit line k → shapeOf line ≡ fit k
 line-fit line k f =

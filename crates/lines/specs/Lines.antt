@@ -1,10 +1,11 @@
 -- A line before it is served: its fields and items, which lines are refused by their shape, and what reading the items of a line
 -- gives. Document 01, 'Frames' and 'What a refused line or call gets'. A line is a list of characters, without its byte 10.
 -- Definitions only.
+use mathlib.Core.Path.{_≡_}
 use mathlib.Core.Bool.{Bool, true, false, cond, _||_}
 use mathlib.Core.List.{List, [], _∷_, _++_}
 use mathlib.Core.Option.{Option, none, some}
-use Prim.Native.Nat.{ℕ, zero, suc, _+_, _*_, _%_}
+use Prim.Native.Nat.{ℕ, zero, suc, _+_, _*_, _%_, _≤_, _<_}
 use lib.Dec.{eqb, ltb, leb}
 use lib.ListN.{length, take, drop}
 use Rattle.digits.specs.Digits.{allDigits, numberOf}
@@ -65,6 +66,19 @@ shapeOf line =
 unfoldable pub shapeCode : Shape → ShapeAnswer
 shapeCode (unfit r) = answer.Refused r
 shapeCode (fit k) = answer.Kind (rowOf k .byte)
+
+-- A length that is not refused in general: some characters, an even number, at most 514.
+pub record Proper (n : ℕ) : Type 0 where
+  pub some-there : 0 < n
+  pub even : n % 2 ≡ 0
+  pub most : n ≤ 514
+
+-- A line that is fit, of a kind.
+pub record Fit (line : List ℕ) (k : Kind) : Type 0 where
+  pub proper : Proper (length line)
+  pub digits : allDigits line ≡ true
+  pub kind : kindOf (field line 0 1) ≡ some k
+  pub long : length line ≡ 2 * bytesIn k line
 
 -- ---- reading the items of a line
 

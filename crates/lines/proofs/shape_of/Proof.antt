@@ -10,8 +10,8 @@ use borrow.Author.Tests.{not-true, not-false}
 use lib.ListN.{length}
 use Rattle.digits.specs.Digits.{allDigits}
 use Rattle.lines.specs.Kinds.{Kind, kindOf}
-use Rattle.lines.specs.Lines.{field, bytesIn, unfit, fit, shapeOfKind, shapeOf, shapeCode}
-use Rattle.lines.specs.LineLaws.{byte-kind, row-small, Proper, bad-none, bad-odd, bad-long, unfit-length, unfit-character}
+use Rattle.lines.specs.Lines.{field, bytesIn, unfit, fit, shapeOfKind, shapeOf, shapeCode, Proper}
+use Rattle.lines.specs.LineLaws.{byte-kind, row-small, bad-none, bad-odd, bad-long, unfit-length, unfit-character}
 use Rattle.lines.specs.LineLaws.{shape-kind, unfit-kind, unfit-kind-length, fit-kind-length}
 use Rattle.lines.specs.Calls.{rowFor}
 use Rattle.lines.specs.declared.Row.{Row}

@@ -8,8 +8,8 @@ use borrow.Author.Needs.{needs}
 use borrow.Author.Tests.{eqb-true, ne-eqb}
 use lib.Dec.{eqb}
 use Rattle.lines.specs.Kinds.{Kind, count-line, best-line, at-line, record-line, word-line, next-line, rowOf, kinds}
-use Rattle.lines.specs.Lines.{Shape, unfit, fit, shapeOf, shapeCode}
-use Rattle.lines.specs.LineLaws.{Fit, fit-line, kind-byte, kind-shape, passes, each-kind}
+use Rattle.lines.specs.Lines.{Shape, unfit, fit, shapeOf, shapeCode, Fit}
+use Rattle.lines.specs.LineLaws.{fit-line, kind-byte, kind-shape, passes, each-kind}
 use Rattle.frames.specs.Replies.{replyTo, served}
 use Rattle.frames.specs.ReplyLaws.{reply-fit}
 use Rattle.frames.specs.Calls.{FitAs}
