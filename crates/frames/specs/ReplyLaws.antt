@@ -37,7 +37,7 @@ use Rattle.lines.specs.StreamLaws.{digits-unbroken}
 use Rattle.frames.specs.ReplyDigits.{countDigits, headDigits, headBytes, chainDigits, pricedDigits}
 use Rattle.frames.specs.ReplyDigitLaws.{length-count, length-chain, length-priced, every-values}
 use Rattle.frames.specs.ReadBack.{Fitting, ChainRead, chain-read}
-use Rattle.frames.specs.Replies.{servedWith, digitsIn, chainReply, pricedReply, limitsIn, pricesIn, served, replyByShape, replyTo, replyOf}
+use Rattle.frames.specs.Replies.{Reply, servedWith, digitsIn, chainReply, pricedReply, limitsIn, pricesIn, served, replyByShape, replyTo, replyOf}
 
 -- ---- a line's first 515 characters
 
@@ -137,17 +137,32 @@ endsWithChain record-line = true
 endsWithChain word-line = true
 endsWithChain next-line = true
 
-pub served-chain : (k : Kind) (line : List ℕ) → T (endsWithChain k) → (o : Outcome) × Sound o × (served k line ≡ chainReply o)
+-- What a reply to a fit line is made of: a count, or what a service gave, and it ends with the part numbers or it does not.
+data Made (ends : Bool) (x : Reply) : Type 0 where
+  counted : (n : ℕ) → ends ≡ false → x ≡ servedWith (countDigits n) → Made ends x
+  chained : (o : Outcome) → Sound o → x ≡ chainReply o → Made ends x
+  priced : (o : Outcome) (π : Prices) → ends ≡ false → Sound o → x ≡ pricedReply π o → Made ends x
+
+made : (k : Kind) (line : List ℕ) → Made (endsWithChain k) (served k line)
 unfolding endsWithChain served
-served-chain count-line line t = absurd t
-served-chain best-line line t = absurd t
-served-chain at-line line t =
-    let n = field line 1 8 in
-    let i = field line 9 8 in
-    (atPosition n i, at-sound n i (number-low line 1), refl)
-served-chain record-line line t = (ofRecord (itemsIn record-line line), record-sound (itemsIn record-line line), refl)
-served-chain word-line line t = (ofWord (itemsIn word-line line), word-sound (itemsIn word-line line), refl)
-served-chain next-line line t = (nextOf (ofWord (itemsIn next-line line)), next-sound (itemsIn next-line line), refl)
+made count-line line = counted (count (field line 1 8)) refl refl
+made best-line line =
+    let π = pricesIn line in
+    priced (bestOutcome (field line 1 8) (limitsIn line) π) π refl
+    (best-sound (field line 1 8) (limitsIn line) π (number-low line 1) (prices-cheap line)) refl
+made at-line line =
+    chained (atPosition (field line 1 8) (field line 9 8)) (at-sound (field line 1 8) (field line 9 8) (number-low line 1)) refl
+made record-line line = chained (ofRecord (itemsIn record-line line)) (record-sound (itemsIn record-line line)) refl
+made word-line line = chained (ofWord (itemsIn word-line line)) (word-sound (itemsIn word-line line)) refl
+made next-line line = chained (nextOf (ofWord (itemsIn next-line line))) (next-sound (itemsIn next-line line)) refl
+
+pub served-chain : (k : Kind) (line : List ℕ) → T (endsWithChain k) → (o : Outcome) × Sound o × (served k line ≡ chainReply o)
+served-chain k line t = go (made k line)
+  where
+    go : Made (endsWithChain k) (served k line) → (o : Outcome) × Sound o × (served k line ≡ chainReply o)
+    go (counted n f e) = absurd (rw f at t)
+    go (chained o sound e) = (o, sound, e)
+    go (priced o π f sound e) = absurd (rw f at t)
 
 -- ---- every reply is a frame
 
@@ -206,21 +221,13 @@ module _ (o : Outcome) (s : Sound o) where
       go (gives n c) e = priced-frame n (position n c) (map partNumber c) (few n c e) (price π c)
 
 served-frame : (k : Kind) (line : List ℕ) → Frame (digitsIn (served k line))
-unfolding served digitsIn endsWithChain
-served-frame k line = go k
+unfolding digitsIn
+served-frame k line = go (made k line)
   where
-    by-chain : (j : Kind) → T (endsWithChain j) → Frame (digitsIn (served j line))
-    by-chain j t = let (o, sound, e) = served-chain j line t in rw e (outcome-frame o sound)
-
-    go : (j : Kind) → Frame (digitsIn (served j line))
-    go count-line = count-frame (count (field line 1 8))
-    go best-line =
-        outcome-priced (bestOutcome (field line 1 8) (limitsIn line) (pricesIn line))
-        (best-sound (field line 1 8) (limitsIn line) (pricesIn line) (number-low line 1) (prices-cheap line)) (pricesIn line)
-    go at-line = by-chain at-line tt
-    go record-line = by-chain record-line tt
-    go word-line = by-chain word-line tt
-    go next-line = by-chain next-line tt
+    go : Made (endsWithChain k) (served k line) → Frame (digitsIn (served k line))
+    go (counted n f e) = rw e (count-frame n)
+    go (chained o sound e) = rw e (outcome-frame o sound)
+    go (priced o π f sound e) = rw e (outcome-priced o sound π)
 
 pub reply-frame : (line : List ℕ) → Frame (replyOf line)
 unfolding replyOf replyTo replyByShape digitsIn
