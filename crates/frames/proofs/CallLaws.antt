@@ -45,14 +45,16 @@ module _ (k : ℕ) (l₀ l m : List ℕ) (room : 514 ≤ length l₀) (short : k
   unfolding repliedOf digitsIn
   told-served ds n p = record { answer = rw n; digits = stand ds n p }
 
-  pub told-refused : (number : ℕ) → k ≡ 2 → l ≡ putAt 0 (digitsOf 2 number) l₀ → Told (refusedAs number) (replied.Refused number) l₀ m
+  pub told-refused : (number : ℕ) → k ≡ 2 → l ≡ putAt 0 (digitsOf 2 number) l₀
+      → Told (refusedAs number) (replied.Refused number) l₀ m
   unfolding repliedOf digitsIn
   told-refused number e p = record { answer = refl; digits = stand (digitsOf 2 number) (length-digits 2 number ∙ sym e) p }
 
 -- ---- the items of a line
 
 -- The items of a fit line were to be read into as many places, and x was answered.
-module _ (k : Kind) (line : List ℕ) (places : ℕ) (x : Items) (fits : Fit line k) (e : x ≡ itemsCode (readItems (rowOf k .width) line places))
+module _ (k : Kind) (line : List ℕ) (places : ℕ) (x : Items) (fits : Fit line k)
+    (e : x ≡ itemsCode (readItems (rowOf k .width) line places))
     (room : 255 ≤ places) where
   own-items : x ≡ told.Read (length (itemsIn k line))
   unfolding itemsCode
@@ -102,7 +104,8 @@ chain-left n c p p′ e h =
     (omega (arith, length-map c partNumber, simp (e, length-append) at h), rw e (numbers-left n c p))
 
 module _ (f : Found) (places : List ℕ) where
-  pub found-chain : (n i k : ℕ) → f ≡ found.Chain n i k → (partsIn f ≡ k) × (foundReply f places ≡ servedWith (chainDigits n i (take (k - 0) places)))
+  pub found-chain : (n i k : ℕ) → f ≡ found.Chain n i k
+      → (partsIn f ≡ k) × (foundReply f places ≡ servedWith (chainDigits n i (take (k - 0) places)))
   unfolding partsIn foundReply
   found-chain n i k e = rw (e, sub-zero k) (refl, refl)
 
@@ -128,7 +131,8 @@ module _ (o : Outcome) (f : Found) (s p p′ : List ℕ) (numbers : scratchSize 
   pub found-fits : partsIn f ≤ 64
   found-fits = as-outcome .0
 
-  pub found-handled : (s′ : List ℕ) {r : Replied} {out out′ : List ℕ} → s′ ≡ scratchLeft (tooLittle 64 s p) s → Told (foundReply f p′) r out out′
+  pub found-handled : (s′ : List ℕ) {r : Replied} {out out′ : List ℕ} → s′ ≡ scratchLeft (tooLittle 64 s p) s
+      → Told (foundReply f p′) r out out′
       → Handled (chainReply o) r s s′ out out′
   found-handled s′ e told =
       record { told = rw (as-outcome .1) at told; zeroed = scratch-zeroed s p numbers room s′ e }

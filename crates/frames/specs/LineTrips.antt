@@ -32,7 +32,8 @@ use Rattle.frames.specs.ReplyDigits.{valuesDigits, headBytes, chainDigit
 use Rattle.frames.specs.ReplyDigitLaws.{length-values, every-values}
 use Rattle.frames.specs.ReadBack.{Fitting, field-after, field-first, fields-after, fields-first, ChainRead}
 use Rattle.frames.specs.Replies.{refusedAs, servedWith, chainReply, served, replyTo}
-use Rattle.frames.specs.ReplyLaws.{reply-fit, served-kind, Sound, endsWithChain, served-chain, numbers-fit, position-low, reply-read}
+use Rattle.frames.specs.ReplyLaws.{reply-fit, served-kind, Sound, endsWithChain, served-chain, numbers-fit, position-low}
+use Rattle.frames.specs.ReplyLaws.{reply-read}
 
 -- ---- lines made of values
 
@@ -42,7 +43,8 @@ atLine n i = digitsOf 2 (rowOf at-line .byte) ++ (digitsOf 16 n ++ digitsOf 16 i
 
 -- A line with items: its kind, what stands before the count, how many items there are, what stands after the count, the items.
 unfoldable pub itemsLine : Kind → List ℕ → List ℕ → List ℕ → List ℕ
-itemsLine k front mid xs = digitsOf 2 (rowOf k .byte) ++ (front ++ (digitsOf 2 (length xs) ++ (mid ++ valuesDigits (rowOf k .width) xs)))
+itemsLine k front mid xs =
+    digitsOf 2 (rowOf k .byte) ++ (front ++ (digitsOf 2 (length xs) ++ (mid ++ valuesDigits (rowOf k .width) xs)))
 
 -- A record, a word, a word for the next chain: nothing else stands before the items.
 abbrev pub recordLine : List ℕ → List ℕ
@@ -96,14 +98,17 @@ module _ (n i : ℕ) where
 
 -- A line with items, as many as fit into it. f bytes stand before the count, and m after it.
 module _ (k : Kind) (front mid xs : List ℕ) (f m : ℕ) (few : length xs ≤ 255)
-    (front-long : length front ≡ 2 * f) (mid-long : length mid ≡ 2 * m) (count-place : rowOf k .countAt ≡ 1 + f) (items-place : rowOf k .before ≡ 1 + f + 1 + m)
-    (short : 1 + f + 1 + m + rowOf k .width * length xs ≤ 257) (front-digits : allDigits front ≡ true) (mid-digits : allDigits mid ≡ true) where
+    (front-long : length front ≡ 2 * f) (mid-long : length mid ≡ 2 * m) (count-place : rowOf k .countAt ≡ 1 + f)
+    (items-place : rowOf k .before ≡ 1 + f + 1 + m)
+    (short : 1 + f + 1 + m + rowOf k .width * length xs ≤ 257) (front-digits : allDigits front ≡ true)
+    (mid-digits : allDigits mid ≡ true) where
   abbrev width : ℕ
   width = rowOf k .width
 
   length-items : length (itemsLine k front mid xs) ≡ 2 * (1 + f + 1 + m + width * length xs)
   unfolding itemsLine
-  length-items = simp (length-append, length-digits, length-values, front-long, mid-long) (omega (arith, mul-assoc 2 width (length xs)))
+  length-items =
+      simp (length-append, length-digits, length-values, front-long, mid-long) (omega (arith, mul-assoc 2 width (length xs)))
 
   items-count : countIn k (itemsLine k front mid xs) ≡ length xs
   unfolding itemsLine countIn
@@ -139,7 +144,8 @@ module _ (k : Kind) (front mid xs : List ℕ) (f m : ℕ) (few : length xs ≤ 2
       ∙ ap (λ (l : List ℕ). fields l 0 width (length xs)) (sym (append-nil (valuesDigits width xs)))
       ∙ fields-first width xs [] fits)
 
-  items-reply : (outcome : List ℕ → Outcome) → ((line : List ℕ) → served k line ≡ chainReply (outcome (itemsIn k line))) → Fitting width xs
+  items-reply : (outcome : List ℕ → Outcome) → ((line : List ℕ) → served k line ≡ chainReply (outcome (itemsIn k line)))
+      → Fitting width xs
       → replyTo (itemsLine k front mid xs) ≡ chainReply (outcome xs)
   items-reply outcome e fits =
       reply-fit (itemsLine k front mid xs) k (line-fit (itemsLine k front mid xs) k items-line-fit)
@@ -160,7 +166,8 @@ module _ (w : Word) (h : length w ≤ 255) (fits : Fitting 1 w) where
   pub next-reply : replyTo (nextLine w) ≡ chainReply (nextOf (ofWord w))
   unfolding served rowOf every
   next-reply =
-      items-reply next-line [] [] w 0 0 h refl refl refl refl (omega arith) refl refl (λ (l : Word). nextOf (ofWord l)) (λ line. refl) fits
+      items-reply next-line [] [] w 0 0 h refl refl refl refl (omega arith) refl refl (λ (l : Word). nextOf (ofWord l))
+      (λ line. refl) fits
 
 -- ---- all lines about one chain
 
@@ -189,7 +196,8 @@ chain-lines n c h f =
       placed = at-reply n (position n c) f (omega arith) ∙ ap chainReply (at-chain n c h);
       burned = record-reply (map partNumber c) few (numbers-fit n c h f) ∙ ap chainReply (record-chain n c h f);
       spelled = word-reply (wordOf c) short fit ∙ ap chainReply (of-chain n c h f);
-      followed = λ l. next-reply (wordOf c) short fit ∙ ap chainReply (next-below n c h f l) ∙ sym (at-reply n (position n c + 1) f low);
+      followed = λ l. next-reply (wordOf c) short fit ∙ ap chainReply (next-below n c h f l)
+          ∙ sym (at-reply n (position n c + 1) f low);
       last = λ l. next-reply (wordOf c) short fit ∙ ap chainReply (next-last n c h f l);
     }
 
@@ -229,17 +237,20 @@ outcome-leads o s ds e = go o refl
         rw same at (chain-leads n c (s .chain n c g) (s .fits n c g))
 
 -- So do all replies of the kinds 03, 04, 05 and 06.
-pub reply-leads : (line ds : List ℕ) (k : Kind) → kindOf (field line 0 1) ≡ some k → T (endsWithChain k) → replyTo line ≡ servedWith ds → Leads ds
+pub reply-leads : (line ds : List ℕ) (k : Kind) → kindOf (field line 0 1) ≡ some k → T (endsWithChain k)
+    → replyTo line ≡ servedWith ds → Leads ds
 reply-leads line ds k first t e =
     let (o, sound, f) = served-chain k line t in
     outcome-leads o sound ds (sym f ∙ served-kind line ds k first e)
 
 -- A burned record in particular: what its reply tells, asked for at that position, gets the same digits.
-pub record-then-at : (l ds : List ℕ) → replyTo (recordLine l) ≡ servedWith ds → replyTo (atLine (field ds 1 8) (field ds 9 8)) ≡ servedWith ds
+pub record-then-at : (l ds : List ℕ) → replyTo (recordLine l) ≡ servedWith ds
+    → replyTo (atLine (field ds 1 8) (field ds 9 8)) ≡ servedWith ds
 unfolding itemsLine endsWithChain
 record-then-at l ds e = reply-leads (recordLine l) ds record-line (first-byte record-line _) tt e .placed
 
 -- And back: the part numbers that stand in the reply at a position, read as a record, get the same digits.
-pub at-then-record : (n i : ℕ) (ds : List ℕ) → replyTo (atLine n i) ≡ servedWith ds → replyTo (recordLine (fields ds headBytes 2 (field ds 17 1))) ≡ servedWith ds
+pub at-then-record : (n i : ℕ) (ds : List ℕ) → replyTo (atLine n i) ≡ servedWith ds
+    → replyTo (recordLine (fields ds headBytes 2 (field ds 17 1))) ≡ servedWith ds
 unfolding atLine endsWithChain
 at-then-record n i ds e = reply-leads (atLine n i) ds at-line (first-byte at-line _) tt e .burned

@@ -18,7 +18,8 @@ use Rattle.lent.specs.Parts.{part-lent}
 use Rattle.frames.specs.Put.{putAt}
 
 -- ys right after xs.
-pub put-put : (at k : ℕ) (xs ys l : List ℕ) → k ≡ at + length xs → at + length xs ≤ length l → putAt k ys (putAt at xs l) ≡ putAt at (xs ++ ys) l
+pub put-put : (at k : ℕ) (xs ys l : List ℕ) → k ≡ at + length xs → at + length xs ≤ length l
+    → putAt k ys (putAt at xs l) ≡ putAt at (xs ++ ys) l
 unfolding putAt
 put-put at k xs ys l e h =
     let p = take at l ++ xs in
@@ -39,7 +40,8 @@ pub none-yet : (start : ℕ) (l : List ℕ) → Stands start [] l l start
 unfolding putAt
 none-yet start l = record { ends = omega arith; list = rw (add-zero, take-append-drop) }
 
-pub one-more : (start j k : ℕ) (xs ys l₀ l m : List ℕ) → Stands start xs l₀ l j → j ≤ length l₀ → m ≡ putAt j ys l → k ≡ j + length ys
+pub one-more : (start j k : ℕ) (xs ys l₀ l m : List ℕ) → Stands start xs l₀ l j → j ≤ length l₀ → m ≡ putAt j ys l
+    → k ≡ j + length ys
     → Stands start (xs ++ ys) l₀ m k
 one-more start j k xs ys l₀ l m s h e d =
     record {
@@ -54,7 +56,8 @@ at-start k xs l₀ l n e = record { ends = omega arith; list = e }
 pub first-digits : (k n end : ℕ) (l₀ l : List ℕ) → end ≡ 0 + k → l ≡ putAt 0 (digitsOf k n) l₀ → Stands 0 (digitsOf k n) l₀ l end
 first-digits k n end l₀ l f e = at-start end (digitsOf k n) l₀ l (omega (arith, length-digits k n)) e
 
-pub more-digits : (start j k n end : ℕ) (xs l₀ l m : List ℕ) → Stands start xs l₀ l j → j ≤ length l₀ → end ≡ j + k → m ≡ putAt j (digitsOf k n) l
+pub more-digits : (start j k n end : ℕ) (xs l₀ l m : List ℕ) → Stands start xs l₀ l j → j ≤ length l₀ → end ≡ j + k
+    → m ≡ putAt j (digitsOf k n) l
     → Stands start (xs ++ digitsOf k n) l₀ m end
 more-digits start j k n end xs l₀ l m s h f e =
     one-more start j end xs (digitsOf k n) l₀ l m s h e (omega (arith, length-digits k n))
@@ -69,7 +72,8 @@ pub put-part : (at k n : ℕ) (l : List ℕ) → at + k ≤ length l
 unfolding putAt
 put-part at k n l h =
     let g : k ≤ length (drop at l) = omega (arith, length-drop at l) in
-    let r : drop (length l - at) (drop at l) ≡ [] = drop-of-length-le (drop at l) {i = length l - at} (omega (arith, length-drop at l)) in
+    let r : drop (length l - at) (drop at l) ≡ [] =
+    drop-of-length-le (drop at l) {i = length l - at} (omega (arith, length-drop at l)) in
     rw (part-lent at l (omega arith), put-room k n (drop at l) g, r, append-nil, drop-drop k at l, length-digits k n)
 
 -- Zeros from `at` up to `size`, and the rule for lent memory where the first digits stand.

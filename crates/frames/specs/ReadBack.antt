@@ -11,7 +11,8 @@ use lib.Seq.{take-at, drop-append-add}
 use Rattle.digits.specs.Digits.{digitsOf}
 use Rattle.digits.specs.DigitLaws.{length-digits, number-digits}
 use Rattle.lines.specs.Lines.{field, fields}
-use Rattle.frames.specs.ReplyDigits.{countDigits, valuesDigits, numbersDigits, headDigits, headBytes, chainDigits, pricedDigits}
+use Rattle.frames.specs.ReplyDigits.{countDigits, valuesDigits, numbersDigits, headDigits, headBytes, chainDigits}
+use Rattle.frames.specs.ReplyDigits.{pricedDigits}
 use Rattle.frames.specs.ReplyDigitLaws.{length-head, length-chain}
 
 -- ---- one field
@@ -46,7 +47,13 @@ fields-first width (x ∷ xs) l h =
     let d = digitsOf (2 * width) x in
     let rest = valuesDigits width xs ++ l in
     let z : 0 + width ≡ width + 0 = omega arith in
-    rw (append-assoc, field-first width x rest (h 0 (omega arith)), z, fields-after width 0 width (length xs) d rest (length-digits (2 * width) x))
+    rw (
+      append-assoc,
+      field-first width x rest (h 0 (omega arith)),
+      z,
+      fields-after width 0 width (length xs) d rest
+          (length-digits (2 * width) x),
+    )
     (ap (λ (ys : List ℕ). x ∷ ys) (fields-first width xs l (λ i g. h (suc i) (omega arith))))
 
 -- ---- replies
@@ -67,7 +74,8 @@ pub record ChainRead (n position : ℕ) (numbers ds : List ℕ) : Type 0 where
   pub parts : field ds 17 1 ≡ length numbers
   pub each : fields ds headBytes 2 (length numbers) ≡ numbers
 
-module _ (n position : ℕ) (numbers rest : List ℕ) (f : n < 2 ^ 64) (g : position < 2 ^ 64) (few : length numbers ≤ 64) (fit : Fitting 2 numbers) where
+module _ (n position : ℕ) (numbers rest : List ℕ) (f : n < 2 ^ 64) (g : position < 2 ^ 64) (few : length numbers ≤ 64)
+    (fit : Fitting 2 numbers) where
   pub chain-read : ChainRead n position numbers (chainDigits n position numbers ++ rest)
   unfolding chainDigits headDigits
   chain-read =
@@ -85,9 +93,11 @@ module _ (n position : ℕ) (numbers rest : List ℕ) (f : n < 2 ^ 64) (g : posi
         zero-first = rw h (field-first 1 0 (b ++ (c ++ (d ++ (e ++ rest)))) (omega arith));
         number = after-a 0 8 ∙ field-first 8 n (c ++ (d ++ (e ++ rest))) (omega arith);
         place = after-b 0 8 ∙ field-first 8 position (d ++ (e ++ rest)) (omega arith);
-        parts = after-b 8 1 ∙ field-after 8 0 1 c (d ++ (e ++ rest)) (length-digits 16 position) ∙ field-first 1 (length numbers) (e ++ rest) (omega arith);
+        parts = after-b 8 1 ∙ field-after 8 0 1 c (d ++ (e ++ rest)) (length-digits 16 position)
+            ∙ field-first 1 (length numbers) (e ++ rest) (omega arith);
         each = rw (append-assoc (a ++ b ++ c ++ d) e rest)
-            (fields-after headBytes 0 2 (length numbers) (a ++ b ++ c ++ d) (e ++ rest) (length-head n position numbers) ∙ fields-first 2 numbers rest fit);
+            (fields-after headBytes 0 2 (length numbers) (a ++ b ++ c ++ d) (e ++ rest) (length-head n position numbers)
+            ∙ fields-first 2 numbers rest fit);
       }
 
 -- The price follows the last part number.
@@ -98,4 +108,5 @@ price-read n position numbers price h =
     let at = headBytes + 2 * length numbers in
     let ds = chainDigits n position numbers in
     let long : length ds ≡ 2 * at = length-chain n position numbers in
-    rw (← append-nil (digitsOf 8 price), ← add-zero at) (field-after at 0 4 ds (digitsOf 8 price ++ []) long ∙ field-first 4 price [] (omega arith))
+    rw (← append-nil (digitsOf 8 price), ← add-zero at)
+    (field-after at 0 4 ds (digitsOf 8 price ++ []) long ∙ field-first 4 price [] (omega arith))

@@ -116,10 +116,12 @@ of-record : (l : List ℕ) → OutcomeIn (refusalsOf record-line) (ofRecord l)
 unfolding ofRecord judgedOf refusalsOf among
 of-record l =
     of-judged (refusalsOf record-line) l (judgedOf l)
-    (go (ltb 64 (length l) || beyond l) (not (chainedTest (recordParts l))) (leb limit (total (recordParts l))) (total (recordParts l)))
+    (go (ltb 64 (length l) || beyond l) (not (chainedTest (recordParts l))) (leb limit (total (recordParts l)))
+    (total (recordParts l)))
   where
     go : (many loose over : Bool) (n : ℕ)
-        → JudgedIn (refusalsOf record-line) (cond many (judged.Refused 8) (cond loose (judged.Refused 9) (cond over (judged.Refused 10) (judged.Sum n))))
+        → JudgedIn (refusalsOf record-line)
+        (cond many (judged.Refused 8) (cond loose (judged.Refused 9) (cond over (judged.Refused 10) (judged.Sum n))))
     go true loose over n = tt
     go false true over n = tt
     go false false true n = tt
@@ -143,7 +145,8 @@ of-shape line = go (badLength (length line)) (allDigits line) (kindOf (field lin
     of-kind k true = tt
     of-kind k false = tt
 
-    go : (bad digits : Bool) (k : Option Kind) → ShapeIn shapeRefusals (cond bad (unfit 2) (cond digits (shapeOfKind line k) (unfit 3)))
+    go : (bad digits : Bool) (k : Option Kind)
+        → ShapeIn shapeRefusals (cond bad (unfit 2) (cond digits (shapeOfKind line k) (unfit 3)))
     go true digits k = tt
     go false false k = tt
     go false true none = tt
@@ -152,13 +155,15 @@ of-shape line = go (badLength (length line)) (allDigits line) (kindOf (field lin
 of-served : (k : Kind) (line : List ℕ) → ReplyIn (refusalsOf k) (served k line)
 unfolding served refusalsOf among
 of-served count-line line = tt
-of-served best-line line = of-priced (refusalsOf best-line) (pricesIn line) _ (of-best (field line 1 8) (limitsIn line) (pricesIn line))
+of-served best-line line =
+    of-priced (refusalsOf best-line) (pricesIn line) _ (of-best (field line 1 8) (limitsIn line) (pricesIn line))
 of-served at-line line = of-chain (refusalsOf at-line) _ (at-position (field line 1 8) (field line 9 8))
 of-served record-line line = of-chain (refusalsOf record-line) _ (of-record (itemsIn record-line line))
 of-served word-line line = of-chain (refusalsOf word-line) _ (of-word (refusalsOf word-line) tt tt (itemsIn word-line line))
 of-served next-line line =
     of-chain (refusalsOf next-line) _
-    (of-next (refusalsOf next-line) tt (ofWord (itemsIn next-line line)) (of-word (refusalsOf next-line) tt tt (itemsIn next-line line)))
+    (of-next (refusalsOf next-line) tt (ofWord (itemsIn next-line line))
+    (of-word (refusalsOf next-line) tt tt (itemsIn next-line line)))
 
 -- A line is refused by its shape, or it is fit and refused with a number of its kind.
 pub reply-refusals : (line : List ℕ) (r : ℕ) → replyTo line ≡ refusedAs r

@@ -10,7 +10,8 @@ use lib.ListN.{length, getD, take, length-append}
 use lib.Seq.{take-suc}
 use Rattle.digits.specs.Digits.{every, digitsOf}
 use Rattle.digits.specs.DigitLaws.{every-append, length-digits}
-use Rattle.frames.specs.ReplyDigits.{countDigits, valuesDigits, numbersDigits, headDigits, headBytes, chainDigits, pricedDigits}
+use Rattle.frames.specs.ReplyDigits.{countDigits, valuesDigits, numbersDigits, headDigits, headBytes, chainDigits}
+use Rattle.frames.specs.ReplyDigits.{pricedDigits}
 
 pub length-count : (count : ℕ) → length (countDigits count) ≡ 18
 unfolding countDigits
@@ -46,5 +47,6 @@ unfolding valuesDigits
 numbers-snoc [] x = append-nil (digitsOf 4 x)
 numbers-snoc (y ∷ xs) x = rw (numbers-snoc xs x, append-assoc)
 
-pub numbers-more : (xs : List ℕ) (i : ℕ) → i < length xs → numbersDigits (take (i + 1) xs) ≡ numbersDigits (take i xs) ++ digitsOf 4 (getD xs i 0)
+pub numbers-more : (xs : List ℕ) (i : ℕ) → i < length xs
+    → numbersDigits (take (i + 1) xs) ≡ numbersDigits (take i xs) ++ digitsOf 4 (getD xs i 0)
 numbers-more xs i h = rw (add-one, take-suc xs i 0) (numbers-snoc (take i xs) (getD xs i 0))

@@ -37,7 +37,8 @@ use Rattle.lines.specs.StreamLaws.{digits-unbroken}
 use Rattle.frames.specs.ReplyDigits.{countDigits, headDigits, headBytes, chainDigits, pricedDigits}
 use Rattle.frames.specs.ReplyDigitLaws.{length-count, length-chain, length-priced, every-values}
 use Rattle.frames.specs.ReadBack.{Fitting, ChainRead, chain-read}
-use Rattle.frames.specs.Replies.{Reply, servedWith, digitsIn, chainReply, pricedReply, limitsIn, pricesIn, served, replyByShape, replyTo, replyOf}
+use Rattle.frames.specs.Replies.{Reply, servedWith, digitsIn, chainReply, pricedReply, limitsIn, pricesIn, served}
+use Rattle.frames.specs.Replies.{replyByShape, replyTo, replyOf}
 
 -- ---- a line's first 515 characters
 
@@ -53,7 +54,8 @@ unfolding replyTo replyByShape
 reply-fit line k e = rw e
 
 -- A line that is served is fit, and of the kind that its first byte stands for.
-pub served-kind : (line ds : List ℕ) (k : Kind) → kindOf (field line 0 1) ≡ some k → replyTo line ≡ servedWith ds → served k line ≡ servedWith ds
+pub served-kind : (line ds : List ℕ) (k : Kind) → kindOf (field line 0 1) ≡ some k → replyTo line ≡ servedWith ds
+    → served k line ≡ servedWith ds
 unfolding replyTo replyByShape
 served-kind line ds k first e = go (shapeOf line) refl
   where
@@ -103,10 +105,12 @@ module _ (n : ℕ) (lim : Limits) (π : Prices) where
       go (some c) = given c
 
   pub best-number : (m : ℕ) (c : List Part) → bestOutcome n lim π ≡ gives m c → m ≡ n
-  best-number m c = by-best (λ (o : Outcome). o ≡ gives m c → m ≡ n) (λ e. let z : _≡_ {A = ℕ} 0 1 = cc in absurd (omega arith)) (λ d e. cc)
+  best-number m c =
+      by-best (λ (o : Outcome). o ≡ gives m c → m ≡ n) (λ e. let z : _≡_ {A = ℕ} 0 1 = cc in absurd (omega arith)) (λ d e. cc)
 
   pub best-five : (r : ℕ) → bestOutcome n lim π ≡ refused r → r ≡ 5
-  best-five r = by-best (λ (o : Outcome). o ≡ refused r → r ≡ 5) (λ e. cc) (λ d e. let z : _≡_ {A = ℕ} 0 1 = cc in absurd (omega arith))
+  best-five r =
+      by-best (λ (o : Outcome). o ≡ refused r → r ≡ 5) (λ e. cc) (λ d e. let z : _≡_ {A = ℕ} 0 1 = cc in absurd (omega arith))
 
 pub best-sound : (n : ℕ) (lim : Limits) (π : Prices) → n < 2 ^ 64 → Cheap π → Sound (bestOutcome n lim π)
 best-sound n lim π f cheap =
@@ -181,7 +185,8 @@ refusal-frame r = frame 1 (digitsOf 2 r) (length-digits 2 r) (omega arith) (omeg
 
 count-frame : (count : ℕ) → Frame (countDigits count)
 unfolding countDigits
-count-frame count = frame 9 (countDigits count) (length-count count) (omega arith) (omega arith) (simp (every-append, written-digits))
+count-frame count =
+    frame 9 (countDigits count) (length-count count) (omega arith) (omega arith) (simp (every-append, written-digits))
 
 module _ (n position : ℕ) (numbers : List ℕ) (few : length numbers ≤ 64) where
   written-chain : every isWritten (chainDigits n position numbers) ≡ true

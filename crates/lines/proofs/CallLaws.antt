@@ -20,7 +20,8 @@ use Rattle.lines.specs.declared.Items.the-variants as told
 -- What stands in the row r of the kind with the byte b: nothing before the items, where there is no such kind.
 pub data Known (b : ℕ) (r : Row) : Type 0 where
   no-kind : kindOf b ≡ none → r .before ≡ 0 → r .width ≡ 0 → Known b r
-  of-kind : (k : Kind) → kindOf b ≡ some k → r .before ≡ rowOf k .before → r .at ≡ rowOf k .countAt → r .width ≡ rowOf k .width → Known b r
+  of-kind : (k : Kind) → kindOf b ≡ some k → r .before ≡ rowOf k .before → r .at ≡ rowOf k .countAt → r .width ≡ rowOf k .width
+      → Known b r
 
 pub known : (b : ℕ) (r : Row) → r ≡ rowFor (kindOf b) → Known b r
 unfolding rowFor
@@ -39,11 +40,15 @@ row-low b r e count h = go (known b r e)
     go : Known b r → (r .before < 256) × (r .width * count ≤ 510)
     go (no-kind f x w) = (omega arith, mul-le-mul {n₁ = r .width} {m₁ = count} {n₂ = 2} {m₂ = 255} (omega arith) (omega arith))
     go (of-kind k f x a w) =
-        let s = row-small k in
-        (omega (arith, s .few-before), mul-le-mul {n₁ = r .width} {m₁ = count} {n₂ = 2} {m₂ = 255} (omega (arith, s .narrow)) (omega arith))
+        let s = row-small k in (
+          omega (arith, s .few-before),
+          mul-le-mul {n₁ = r .width} {m₁ = count} {n₂ = 2} {m₂ = 255} (omega (arith, s .narrow))
+              (omega arith),
+        )
 
 -- How many bytes a line of the kind must have, and its items.
-module _ (line : List ℕ) (k : Kind) (before width at count : ℕ) (x : before ≡ rowOf k .before) (a : at ≡ rowOf k .countAt) (w : width ≡ rowOf k .width)
+module _ (line : List ℕ) (k : Kind) (before width at count : ℕ) (x : before ≡ rowOf k .before) (a : at ≡ rowOf k .countAt)
+    (w : width ≡ rowOf k .width)
     (told : count ≡ field line at 1) where
   pub row-bytes : before + width * count ≡ bytesIn k line
   unfolding bytesIn countIn
@@ -63,13 +68,16 @@ module _ (width : ℕ) (line : List ℕ) (places : ℕ) (x : Span) where
 
 -- They are read, or nothing is written.
 module _ (width : ℕ) (line entry : List ℕ) (x : Span) where
-  pub span-read : (from count : ℕ) (l : List ℕ) → x ≡ span.At from count → spanItems width line x ≡ readItems width line (length entry)
+  pub span-read : (from count : ℕ) (l : List ℕ) → x ≡ span.At from count
+      → spanItems width line x ≡ readItems width line (length entry)
       → l ≡ fields line from width count ++ drop count entry
-      → (told.Read count ≡ itemsCode (readItems width line (length entry))) × (l ≡ itemsLeft (readItems width line (length entry)) entry)
+      → (told.Read count ≡ itemsCode (readItems width line (length entry)))
+      × (l ≡ itemsLeft (readItems width line (length entry)) entry)
   unfolding spanItems itemsCode itemsLeft
   span-read from count l e f g = rw (← f, e, length-fields) (refl, g)
 
   pub span-refused : (r : ℕ) → x ≡ span.Refused r → spanItems width line x ≡ readItems width line (length entry)
-      → (told.Refused r ≡ itemsCode (readItems width line (length entry))) × (entry ≡ itemsLeft (readItems width line (length entry)) entry)
+      → (told.Refused r ≡ itemsCode (readItems width line (length entry)))
+      × (entry ≡ itemsLeft (readItems width line (length entry)) entry)
   unfolding spanItems itemsCode itemsLeft
   span-refused r e f = rw (← f, e) (refl, refl)

@@ -17,7 +17,8 @@ use Rattle.digits.specs.Digits.{valueOr0, allDigits, numberOf, readFrom}
 use Rattle.digits.specs.DigitLaws.{number-below, number-fits}
 use Rattle.lines.specs.Kinds.{Kind, count-line, best-line, at-line, record-line, word-line, next-line, Row, rowOf, kinds}
 use Rattle.lines.specs.Kinds.{kindAmong, kindOf}
-use Rattle.lines.specs.Lines.{field, fields, bytesIn, itemsIn, Shape, unfit, fit, badLength, Proper, shapeOfKind, shapeOf, shapeCode}
+use Rattle.lines.specs.Lines.{field, fields, bytesIn, itemsIn, Shape, unfit, fit, badLength, Proper, shapeOfKind, shapeOf}
+use Rattle.lines.specs.Lines.{shapeCode}
 use Rattle.lines.specs.Lines.{Fit, unread, read, itemsOfKind, readItems}
 use Rattle.lines.specs.declared.Shape.the-variants as answer
 
@@ -139,7 +140,8 @@ pub row-small : (k : Kind) → Small (rowOf k)
 unfolding isSmall kinds rowOf passes
 row-small k =
     let t = each-kind isSmall refl k in
-    let h = and-eq-true-iff (ltb (rowOf k .byte) 256 && ltb 0 (rowOf k .before)) (ltb (rowOf k .before) 256 && leb (rowOf k .width) 2) .0 t in
+    let h = and-eq-true-iff (ltb (rowOf k .byte) 256 && ltb 0 (rowOf k .before))
+    (ltb (rowOf k .before) 256 && leb (rowOf k .width) 2) .0 t in
     let f = and-eq-true-iff (ltb (rowOf k .byte) 256) (ltb 0 (rowOf k .before)) .0 (h .0) in
     let g = and-eq-true-iff (ltb (rowOf k .before) 256) (leb (rowOf k .width) 2) .0 (h .1) in
     record {

@@ -191,9 +191,9 @@ fn read_pairs(line: &[u8], from: usize, count: usize, numbers: &mut [u16])
     }
 }
 
-// The letters of the word in a line, one byte each, at the start of `letters`; how many there are is told. Refuses with 1 where fewer
-// than 255 places are lent, with 4 where the line is of no kind that has letters, and with 2 where it is shorter than its kind;
-// then nothing is written.
+// The letters of the word in a line, one byte each, at the start of `letters`; how many there are is told. Refuses with 1 where
+// fewer than 255 places are lent, with 4 where the line is of no kind that has letters, and with 2 where it is shorter than its
+// kind; then nothing is written.
 pub fn letters_of(line: &[u8], letters: &mut [u8]) -> Items
     ensures { λ r. ⌜ r ≡ itemsCode (readItems 1 (now (line .entry)) (length (now (letters .entry)))) ⌝ }
     ensures { λ _. ⌜ now (letters .exit)

@@ -13,7 +13,8 @@ at-kind : (b kind : ℕ) → kind ≡ b → rowFor (kindOf b) ≡ rowFor (kindOf
 at-kind b kind e = rw e
 
 -- No kind has another byte than 1 to 6.
-at-none : (b : ℕ) → (b ≡ 1 → ⊥) → (b ≡ 2 → ⊥) → (b ≡ 3 → ⊥) → (b ≡ 4 → ⊥) → (b ≡ 5 → ⊥) → (b ≡ 6 → ⊥) → rowWith 0 0 0 ≡ rowFor (kindOf b)
+at-none : (b : ℕ) → (b ≡ 1 → ⊥) → (b ≡ 2 → ⊥) → (b ≡ 3 → ⊥) → (b ≡ 4 → ⊥) → (b ≡ 5 → ⊥) → (b ≡ 6 → ⊥)
+    → rowWith 0 0 0 ≡ rowFor (kindOf b)
 unfolding rowFor kindOf kindAmong kinds rowOf
 at-none b h₁ h₂ h₃ h₄ h₅ h₆ =
     rw (ne-eqb b 1 h₁, ne-eqb b 2 h₂, ne-eqb b 3 h₃, ne-eqb b 4 h₄, ne-eqb b 5 h₅, ne-eqb b 6 h₆, kindAmong)

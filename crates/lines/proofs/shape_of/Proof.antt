@@ -116,13 +116,15 @@ returns-6 : tie.Need-returns-6
 returns-6 c =
     let w = c .before .before .before in
     let f = w .before .before in
-    wrong-length _ _ _ (passed (f .before .before)) (f .if5 .left) (w .wide .result) (w .wide .ensures .0 ∙ w .before .byte-of2 .ensures) (c .if6 .taken)
+    wrong-length _ _ _ (passed (f .before .before)) (f .if5 .left) (w .wide .result)
+    (w .wide .ensures .0 ∙ w .before .byte-of2 .ensures) (c .if6 .taken)
 
 returns-7 : tie.Need-returns-7
 returns-7 c =
     let w = c .before .before .before in
     let f = w .before .before in
-    right-length _ _ _ (passed (f .before .before)) (f .if5 .left) (w .wide .result) (w .wide .ensures .0 ∙ w .before .byte-of2 .ensures) (c .if6 .left)
+    right-length _ _ _ (passed (f .before .before)) (f .if5 .left) (w .wide .result)
+    (w .wide .ensures .0 ∙ w .before .byte-of2 .ensures) (c .if6 .left)
 
 pub shape-of-spec : {M : Type 1} → statement M
 shape-of-spec =

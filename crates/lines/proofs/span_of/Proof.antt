@@ -16,7 +16,8 @@ use Rattle.lines.proofs.span_of.Statement.{statement}
 use Rattle.lines.proofs.span_of.Tie as tie
 
 -- The row r is that of the line's first byte b, and enough places are lent.
-module _ (width : ℕ) (line : List ℕ) (places b : ℕ) (r : Row) (some-width : 0 < width) (room : 255 ≤ places) (first : b ≡ field line 0 1)
+module _ (width : ℕ) (line : List ℕ) (places b : ℕ) (r : Row) (some-width : 0 < width) (room : 255 ≤ places)
+    (first : b ≡ field line 0 1)
     (e : r ≡ rowFor (kindOf b)) where
   other : (r .width ≡ width → ⊥) → unread 4 ≡ readItems width line places
   other h = sym (items-kind width line places room ∙ rw (← first) (go (known b r e)))
@@ -27,15 +28,18 @@ module _ (width : ℕ) (line : List ℕ) (places b : ℕ) (r : Row) (some-width 
 
   -- The line is of a kind with items of that width.
   module _ (same : r .width ≡ width) where
-    itself : (k : Kind) × (kindOf b ≡ some k) × (r .before ≡ rowOf k .before) × (r .at ≡ rowOf k .countAt) × (rowOf k .width ≡ width)
+    itself : (k : Kind) × (kindOf b ≡ some k) × (r .before ≡ rowOf k .before) × (r .at ≡ rowOf k .countAt) × (rowOf k .width
+        ≡ width)
     itself = go (known b r e)
       where
-        go : Known b r → (k : Kind) × (kindOf b ≡ some k) × (r .before ≡ rowOf k .before) × (r .at ≡ rowOf k .countAt) × (rowOf k .width ≡ width)
+        go : Known b r → (k : Kind) × (kindOf b ≡ some k) × (r .before ≡ rowOf k .before) × (r .at
+            ≡ rowOf k .countAt) × (rowOf k .width ≡ width)
         go (no-kind f x w) = absurd (omega arith)
         go (of-kind k f x a w) = (k, f, x, a, sym w ∙ same)
 
     module _ (count : ℕ) (told : count ≡ field line (r .at) 1) where
-      bytes : (k : Kind) → r .before ≡ rowOf k .before → r .at ≡ rowOf k .countAt → rowOf k .width ≡ width → r .before + width * count ≡ bytesIn k line
+      bytes : (k : Kind) → r .before ≡ rowOf k .before → r .at ≡ rowOf k .countAt → rowOf k .width ≡ width
+          → r .before + width * count ≡ bytesIn k line
       bytes k x a w = row-bytes line k (r .before) width (r .at) count x a (sym w) told
 
       short : length line / 2 < r .before + width * count → unread 2 ≡ readItems width line places
@@ -48,8 +52,10 @@ module _ (width : ℕ) (line : List ℕ) (places b : ℕ) (r : Row) (some-width 
       there h =
           let (k, f, x, a, w) = itself in
           let n = bytes k x a w in
-          let l : fields line (r .before) width count ≡ itemsIn k line = row-items line k (r .before) width (r .at) count x a (sym w) told in
-          sym (items-kind width line places room ∙ rw (← first) (items-there width line (kindOf b) k f w (omega arith)) ∙ ap read (sym l))
+          let l : fields line (r .before) width count ≡ itemsIn k line =
+          row-items line k (r .before) width (r .at) count x a (sym w) told in
+          sym (items-kind width line places room ∙ rw (← first) (items-there width line (kindOf b) k f w (omega arith))
+          ∙ ap read (sym l))
 
 returns : tie.Need-returns
 unfolding spanItems InLine
@@ -62,8 +68,11 @@ unfolding spanItems InLine
 returns-2 c =
     let r = c .before .before in
     let b = r .before in
-    let s = b .before .before .before in
-    (other (s .args .width) (s .args .line .now) (s .args .places) _ _ (s .pre) (omega arith) (b .byte-of .ensures) (r .row-of .ensures) (c .if2 .taken), tt)
+    let s = b .before .before .before in (
+      other (s .args .width) (s .args .line .now) (s .args .places) _ _ (s .pre) (omega arith) (b .byte-of .ensures)
+          (r .row-of .ensures) (c .if2 .taken),
+      tt,
+    )
 
 -- What the row of the line's kind says of sums of its numbers.
 low : (c : tie.After-wide) → (c .before .before .before .before .row-of .result .before < 256)
@@ -83,7 +92,8 @@ returns-3 c =
     let r = w .before .before .before .before in
     let b = r .before in
     let s = b .before .before .before in (
-      short (s .args .width) (s .args .line .now) (s .args .places) _ _ (s .pre) (omega arith) (b .byte-of .ensures) (r .row-of .ensures) (w .before .before .if2 .left)
+      short (s .args .width) (s .args .line .now) (s .args .places) _ _ (s .pre) (omega arith) (b .byte-of .ensures)
+          (r .row-of .ensures) (w .before .before .if2 .left)
           (w .wide .result) (w .wide .ensures .0 ∙ w .before .byte-of2 .ensures) (c .if3 .taken),
       tt,
     )
@@ -95,7 +105,8 @@ returns-4 c =
     let r = w .before .before .before .before in
     let b = r .before in
     let s = b .before .before .before in (
-      there (s .args .width) (s .args .line .now) (s .args .places) _ _ (s .pre) (omega arith) (b .byte-of .ensures) (r .row-of .ensures) (w .before .before .if2 .left)
+      there (s .args .width) (s .args .line .now) (s .args .places) _ _ (s .pre) (omega arith) (b .byte-of .ensures)
+          (r .row-of .ensures) (w .before .before .if2 .left)
           (w .wide .result) (w .wide .ensures .0 ∙ w .before .byte-of2 .ensures) (c .if3 .left),
       (omega arith, omega arith),
     )

@@ -19,14 +19,16 @@ use Rattle.frames.proofs.put.put_numbers.Tie as tie
 First : ℕ → List ℕ → List ℕ → List ℕ → ℕ → ℕ → Type 0
 First at numbers out₀ out end i = Stands at (numbersDigits (take i numbers)) out₀ out end
 
-next : (at : ℕ) (numbers out₀ l m : List ℕ) (j end i : ℕ) → i < length numbers → j ≤ length out₀ → First at numbers out₀ l j i → end ≡ j + 4
+next : (at : ℕ) (numbers out₀ l m : List ℕ) (j end i : ℕ) → i < length numbers → j ≤ length out₀ → First at numbers out₀ l j i
+    → end ≡ j + 4
     → m ≡ putAt j (digitsOf 4 (getD numbers i 0)) l → First at numbers out₀ m end (i + 1)
 unfolding First
 next at numbers out₀ l m j end i h g s f e =
     rw (numbers-more numbers i h) (more-digits at j 4 (getD numbers i 0) end (numbersDigits (take i numbers)) out₀ l m s g f e)
 
 abbrev Inv-loop : tie.InvT-loop
-Inv-loop out₀ at numbers end₀ i₀ out end i = (i ≤ length numbers) × (end ≡ at + 4 * i) × (length out ≡ length out₀) × First at numbers out₀ out end i
+Inv-loop out₀ at numbers end₀ i₀ out end i =
+    (i ≤ length numbers) × (end ≡ at + 4 * i) × (length out ≡ length out₀) × First at numbers out₀ out end i
 
 abbrev μ-loop : tie.MeasureT-loop
 μ-loop out₀ at numbers end₀ i₀ out end i = length numbers - i
@@ -38,8 +40,13 @@ loop-holds c = (search needs, search needs, refl, none-yet _ _)
 loop-again : tie.Need-loop-again Inv-loop μ-loop
 loop-again c =
     let p = c .before .before in
-    let l = p .before .before .before .before .loop in
-    (search needs, search needs, search needs, next _ _ _ _ _ _ _ _ (omega arith) (omega arith) (l .inv .3) (p .put-at .ensures .0) (p .put-at .ensures .1))
+    let l = p .before .before .before .before .loop in (
+      search needs,
+      search needs,
+      search needs,
+      next _ _ _ _ _ _ _ _ (omega arith) (omega arith) (l .inv .3) (p .put-at .ensures .0)
+          (p .put-at .ensures .1),
+    )
 
 returns : tie.Need-returns Inv-loop μ-loop
 unfolding First

@@ -27,7 +27,8 @@ module _ (s : List ℕ) (n : ℕ) (a : Counted) (room : scratchSize ≤ length s
   answer : a ≡ counted.Count (count n)
   answer = e ∙ counted-served n s room
 
-  count-handled : (line s′ out out′ : List ℕ) (x : ℕ) (r : Replied) → a ≡ counted.Count x → n ≡ field line 1 8 % 2 ^ 64 → s′ ≡ scratchLeft (littleScratch s) s
+  count-handled : (line s′ out out′ : List ℕ) (x : ℕ) (r : Replied) → a ≡ counted.Count x → n ≡ field line 1 8 % 2 ^ 64
+      → s′ ≡ scratchLeft (littleScratch s) s
       → Told (servedWith (countDigits x)) r out out′ → Handled (served count-line line) r s s′ out out′
   unfolding served
   count-handled line s′ out out′ x r f read left told =
@@ -46,7 +47,8 @@ returns c =
     let m = t .before .before .before in
     let q = m .before .before .before .before in
     let s = q .before .before .before .before .before .before in
-    count-handled _ _ _ (s .pre .numbers) (q .table-count .ensures .0) _ _ _ _ _ _ (m .count .given .1) (q .before .before .field-of .ensures)
+    count-handled _ _ _ (s .pre .numbers) (q .table-count .ensures .0) _ _ _ _ _ _ (m .count .given .1)
+    (q .before .before .field-of .ensures)
     (q .table-count .ensures .1) (t .tell-count .ensures)
 
 returns-2 : tie.Need-returns-2

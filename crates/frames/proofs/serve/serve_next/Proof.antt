@@ -14,13 +14,21 @@ part-next-chain-end c =
     let m = c .before .before in
     let l = m .before .before .before in
     let s = l .before .before .before .before .before in
-    omega (arith, read-room next-line _ _ _ (s .pre .1) (l .letters-of .ensures .0) (omega arith) _ (m .k .given .1) _ _ (l .letters-of .ensures .1) (omega arith) (omega arith))
+    omega (
+      arith,
+      read-room next-line _ _ _ (s .pre .1) (l .letters-of .ensures .0) (omega arith) _ (m .k .given .1) _ _
+          (l .letters-of .ensures .1) (omega arith) (omega arith),
+    )
 
 tell-found-requires : tie.Need-tell-found-requires
 tell-found-requires c κs =
     let q = c .before .before .before .before .before in
-    let s = q .before .before .before .before .before .before .before .before .before .before .before .before .before .before in
-    (omega arith, found-fits _ _ _ _ _ (s .pre .0 .numbers) refl (q .next-chain .ensures .0) (q .next-chain .ensures .1 .0) (omega arith), omega arith)
+    let s = q .before .before .before .before .before .before .before .before .before .before .before .before .before .before in (
+      omega arith,
+      found-fits _ _ _ _ _ (s .pre .0 .numbers) refl (q .next-chain .ensures .0) (q .next-chain .ensures .1 .0)
+          (omega arith),
+      omega arith,
+    )
 
 returns : tie.Need-returns
 unfolding served rowOf
@@ -30,9 +38,11 @@ returns c =
     let m = q .before .before .before .before .before .before in
     let l = m .before .before .before in
     let s = l .before .before .before .before .before in
-    let w = read-all next-line _ _ _ (s .pre .1) (l .letters-of .ensures .0) (omega arith) _ (m .k .given .1) _ _ (l .letters-of .ensures .1) in
+    let w = read-all next-line _ _ _ (s .pre .1) (l .letters-of .ensures .0) (omega arith) _ (m .k .given .1) _ _
+    (l .letters-of .ensures .1) in
     rw (← w)
-    (found-handled _ _ _ _ _ (s .pre .0 .numbers) refl (q .next-chain .ensures .0) (q .next-chain .ensures .1 .0) (omega arith) _ (q .next-chain .ensures .1 .1) (t .tell-found .ensures))
+    (found-handled _ _ _ _ _ (s .pre .0 .numbers) refl (q .next-chain .ensures .0) (q .next-chain .ensures .1 .0) (omega arith) _
+    (q .next-chain .ensures .1 .1) (t .tell-found .ensures))
 
 returns-2 : tie.Need-returns-2
 unfolding rowOf

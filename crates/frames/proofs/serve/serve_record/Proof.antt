@@ -1,5 +1,5 @@
--- `serve_record` replies with the record's own numbers: they are the part numbers of the chain that reading the record finds, and so at
--- most 64.
+-- `serve_record` replies with the record's own numbers: they are the part numbers of the chain that reading the record finds, and
+-- so at most 64.
 use mathlib.Core.Path.{_≡_, refl, ap}
 use mathlib.Core.List.{List}
 use Prim.Native.Nat.{ℕ, _≤_}
@@ -70,7 +70,11 @@ part-read-record-end c =
     let m = c .before .before in
     let l = m .before .before .before in
     let s = l .before .before .before .before .before in
-    omega (arith, read-room record-line _ _ _ (s .pre .1) (l .numbers-of .ensures .0) (omega arith) _ (m .k .given .1) _ _ (l .numbers-of .ensures .1) (omega arith) (omega arith))
+    omega (
+      arith,
+      read-room record-line _ _ _ (s .pre .1) (l .numbers-of .ensures .0) (omega arith) _ (m .k .given .1) _ _
+          (l .numbers-of .ensures .1) (omega arith) (omega arith),
+    )
 
 part-tell-chain-end : tie.Need-part-tell-chain-end
 unfolding rowOf
@@ -78,7 +82,11 @@ part-tell-chain-end c =
     let m = c .before .before .before .before .before .before .before .before .before .before .before .before in
     let l = m .before .before .before in
     let s = l .before .before .before .before .before in
-    omega (arith, read-room record-line _ _ _ (s .pre .1) (l .numbers-of .ensures .0) (omega arith) _ (m .k .given .1) _ _ (l .numbers-of .ensures .1) (omega arith) (omega arith))
+    omega (
+      arith,
+      read-room record-line _ _ _ (s .pre .1) (l .numbers-of .ensures .0) (omega arith) _ (m .k .given .1) _ _
+          (l .numbers-of .ensures .1) (omega arith) (omega arith),
+    )
 
 tell-chain-requires : tie.Need-tell-chain-requires
 tell-chain-requires c κs =
@@ -96,10 +104,12 @@ returns c =
     let k = q .before .before .before .before .before in
     let l = k .before .before .before in
     let s = l .before .before .before .before .before in
-    let w = read-all record-line _ _ _ (s .pre .1) (l .numbers-of .ensures .0) (omega arith) _ (k .k .given .1) _ _ (l .numbers-of .ensures .1) in
+    let w = read-all record-line _ _ _ (s .pre .1) (l .numbers-of .ensures .0) (omega arith) _ (k .k .given .1) _ _
+    (l .numbers-of .ensures .1) in
     rw (← w)
     (handled _ _ _ (s .pre .0 .numbers) (q .read-record .ensures .0) _ _ _ _ _
-    (at-position _ (s .args .scratch .now) _ (s .pre .0 .numbers) (q .read-record .ensures .0) _ _ (m .n .given .1) .1) (q .read-record .ensures .1) (t .tell-chain .ensures))
+    (at-position _ (s .args .scratch .now) _ (s .pre .0 .numbers) (q .read-record .ensures .0) _ _ (m .n .given .1) .1)
+    (q .read-record .ensures .1) (t .tell-chain .ensures))
 
 returns-2 : tie.Need-returns-2
 unfolding served rowOf
@@ -110,10 +120,12 @@ returns-2 c =
     let k = q .before .before .before .before .before in
     let l = k .before .before .before in
     let s = l .before .before .before .before .before in
-    let w = read-all record-line _ _ _ (s .pre .1) (l .numbers-of .ensures .0) (omega arith) _ (k .k .given .1) _ _ (l .numbers-of .ensures .1) in
+    let w = read-all record-line _ _ _ (s .pre .1) (l .numbers-of .ensures .0) (omega arith) _ (k .k .given .1) _ _
+    (l .numbers-of .ensures .1) in
     rw (← w)
     (handled _ _ _ (s .pre .0 .numbers) (q .read-record .ensures .0) _ _ _ _ _
-    (not-placed _ (s .args .scratch .now) _ (s .pre .0 .numbers) (q .read-record .ensures .0) _ (m .number .given .1)) (q .read-record .ensures .1) (t .tell-refusal .ensures))
+    (not-placed _ (s .args .scratch .now) _ (s .pre .0 .numbers) (q .read-record .ensures .0) _ (m .number .given .1))
+    (q .read-record .ensures .1) (t .tell-refusal .ensures))
 
 returns-3 : tie.Need-returns-3
 unfolding rowOf

@@ -31,7 +31,8 @@ returns c =
     let out = a .out .now in
     let long = length-chain (a .n) (a .position) (a .numbers .now) in
     let chain = at-start _ _ out _ (sym (q .put-chain .ensures .0)) (q .put-chain .ensures .1) in
-    let priced = from-start _ _ _ _ (more-digits 0 _ 8 _ _ _ out _ _ chain (omega arith) (p .put-price .ensures .0) (p .put-price .ensures .1)) in
+    let priced = from-start _ _ _ _
+    (more-digits 0 _ 8 _ _ _ out _ _ chain (omega arith) (p .put-price .ensures .0) (p .put-price .ensures .1)) in
     told-served _ _ _ _ (omega arith) (omega arith) (f .fill .ensures) _ (sym (priced .0)) (priced .1)
 
 pub tell-priced-spec : {M : Type 1} → statement M
