@@ -1,15 +1,15 @@
 -- From the answers of the services to the reply.
 --
--- In this order: a reply with zeros after it; the word or the record of a line in an array; enough is lent to a service; a chain that a
+-- In this order: a reply with zeros after it; the items of a line in an array; enough is lent to a service; a chain that a
 -- service gives.
 use mathlib.Core.Path.{_≡_, refl, sym, _∙_}
 use mathlib.Core.Bool.{false}
-use mathlib.Core.List.{List, [], map}
+use mathlib.Core.List.{List, [], map, _++_}
 use Prim.Native.Nat.{ℕ, _+_, _-_, _*_, _≤_}
 use native.Mathlib.Nat.{sub-zero}
 use native.Mathlib.Omega.{arith}
 use borrow.Author.Tests.{le-ltb}
-use lib.ListN.{length, take, length-append, length-drop, length-map}
+use lib.ListN.{length, take, drop, length-append, length-drop, length-map}
 use lib.Seq.{take-append-seam}
 use Rattle.chains.specs.Chains.{Part}
 use Rattle.lent.specs.Lent.{zeros, filled, scratchSize, scratchLeft, tooLittle, Enough}
@@ -21,10 +21,13 @@ use Rattle.ranking.specs.declared.Found.{Found}
 use Rattle.ranking.specs.declared.Found.the-variants as found
 use Rattle.digits.specs.Digits.{digitsOf}
 use Rattle.digits.specs.DigitLaws.{length-digits}
-use Rattle.lines.specs.Kinds.{Kind, bytesIn}
-use Rattle.lines.specs.Lines.{field, fieldsIn, written, atStart}
-use Rattle.lines.specs.LineLaws.{Fit, written-fit}
-use Rattle.frames.specs.Put.{putAt, at-start, put-filled}
+use Rattle.lines.specs.Kinds.{Kind, rowOf}
+use Rattle.lines.specs.Lines.{itemsIn, readItems, itemsCode, itemsLeft, Fit}
+use Rattle.lines.specs.LineLaws.{items-fit}
+use Rattle.lines.specs.declared.Items.{Items}
+use Rattle.lines.specs.declared.Items.the-variants as told
+use Rattle.frames.specs.Put.{putAt}
+use Rattle.frames.specs.PutLaws.{at-start, put-filled}
 use Rattle.frames.specs.ReplyDigits.{chainDigits}
 use Rattle.frames.specs.Replies.{refusedAs, servedWith, digitsIn, chainReply, repliedOf}
 use Rattle.frames.specs.Calls.{Told, Handled, partsIn, foundReply}
@@ -42,23 +45,39 @@ module _ (k : ℕ) (l₀ l m : List ℕ) (room : 514 ≤ length l₀) (short : k
   unfolding repliedOf digitsIn
   told-served ds n p = record { answer = rw n; digits = stand ds n p }
 
-  pub told-refused : (number : ℕ) → k ≡ 2 → l ≡ putAt 0 (digitsOf 2 number) l₀ → Told (refusedAs number) (replied.Refused number) l₀ m
+  pub told-refused : (number : ℕ) → k ≡ 2 → l ≡ putAt 0 (digitsOf 2 number) l₀
+      → Told (refusedAs number) (replied.Refused number) l₀ m
   unfolding repliedOf digitsIn
   told-refused number e p = record { answer = refl; digits = stand (digitsOf 2 number) (length-digits 2 number ∙ sym e) p }
 
--- ---- the word or the record of a line
+-- ---- the items of a line
 
--- k fields of `width` bytes were read from the line into l, which held `entry` before.
-module _ (width : ℕ) (line entry l : List ℕ) (k : ℕ) (e : k ≡ length (written width line entry)) (f : l ≡ atStart (written width line entry) entry) where
-  -- The array keeps its length, so all of them stand in it.
-  pub read-room : length l ≡ length entry → k ≤ length entry
-  unfolding atStart
-  read-room h = omega (arith, simp (f, length-append, length-drop) at h)
+-- The items of a fit line were to be read into as many places, and x was answered.
+module _ (k : Kind) (line : List ℕ) (places : ℕ) (x : Items) (fits : Fit line k)
+    (e : x ≡ itemsCode (readItems (rowOf k .width) line places))
+    (room : 255 ≤ places) where
+  own-items : x ≡ told.Read (length (itemsIn k line))
+  unfolding itemsCode
+  own-items = rw (items-fit line places k fits room) at e
 
-  -- They are those that the line's count asks for.
-  pub read-all : (x : Kind) → Fit line x → bytesIn x (field line 1 1) ≡ 2 + width * field line 1 1 → 255 ≤ length entry → take (k - 0) l ≡ fieldsIn width line
-  unfolding atStart
-  read-all x fit h g = rw (sub-zero, f, e, take-append-seam) (written-fit width line entry x fit h g)
+  pub not-refused : (r : ℕ) → x ≡ told.Refused r → ⊥
+  not-refused r f = let z : _≡_ {A = ℕ} 0 1 = cc own-items in omega arith
+
+  -- So they were read into l, which held `entry` before.
+  module _ (n : ℕ) (g : x ≡ told.Read n) (entry l : List ℕ) (f : l ≡ itemsLeft (readItems (rowOf k .width) line places) entry) where
+    number : n ≡ length (itemsIn k line)
+    number = cc own-items
+
+    left : l ≡ itemsIn k line ++ drop (length (itemsIn k line)) entry
+    unfolding itemsLeft
+    left = rw (items-fit line places k fits room) at f
+
+    -- The array keeps its length, so all of them stand in it.
+    pub read-room : length l ≡ places → length entry ≡ places → n ≤ places
+    read-room h d = omega (arith, number, simp (left, length-append, length-drop) at h)
+
+    pub read-all : take (n - 0) l ≡ itemsIn k line
+    read-all = rw (sub-zero, number, left, take-append-seam)
 
 -- ---- enough is lent to a service
 
@@ -85,7 +104,8 @@ chain-left n c p p′ e h =
     (omega (arith, length-map c partNumber, simp (e, length-append) at h), rw e (numbers-left n c p))
 
 module _ (f : Found) (places : List ℕ) where
-  pub found-chain : (n i k : ℕ) → f ≡ found.Chain n i k → (partsIn f ≡ k) × (foundReply f places ≡ servedWith (chainDigits n i (take (k - 0) places)))
+  pub found-chain : (n i k : ℕ) → f ≡ found.Chain n i k
+      → (partsIn f ≡ k) × (foundReply f places ≡ servedWith (chainDigits n i (take (k - 0) places)))
   unfolding partsIn foundReply
   found-chain n i k e = rw (e, sub-zero k) (refl, refl)
 
@@ -111,7 +131,8 @@ module _ (o : Outcome) (f : Found) (s p p′ : List ℕ) (numbers : scratchSize 
   pub found-fits : partsIn f ≤ 64
   found-fits = as-outcome .0
 
-  pub found-handled : (s′ : List ℕ) {r : Replied} {out out′ : List ℕ} → s′ ≡ scratchLeft (tooLittle 64 s p) s → Told (foundReply f p′) r out out′
+  pub found-handled : (s′ : List ℕ) {r : Replied} {out out′ : List ℕ} → s′ ≡ scratchLeft (tooLittle 64 s p) s
+      → Told (foundReply f p′) r out out′
       → Handled (chainReply o) r s s′ out out′
   found-handled s′ e told =
       record { told = rw (as-outcome .1) at told; zeroed = scratch-zeroed s p numbers room s′ e }

@@ -18,7 +18,7 @@ use Rattle.ranking.specs.Services.{Outcome, refused, gives}
 use Rattle.best.specs.Chosen.{bestOutcome}
 use Rattle.best.specs.Demand3.{given-is-best, refused-none}
 use Rattle.digits.specs.Digits.{digitsOf}
-use Rattle.lines.specs.Kinds.{choosing}
+use Rattle.lines.specs.Kinds.{best-line}
 use Rattle.lines.specs.Lines.{field, fit, shapeOf}
 use Rattle.frames.specs.ReplyDigits.{chainDigits, pricedDigits}
 use Rattle.frames.specs.ReadBack.{ChainRead, price-read}
@@ -35,10 +35,10 @@ pub record BestReply (line ds : List ℕ) : Type 0 where
 abbrev asked : List ℕ → Outcome
 asked line = bestOutcome (field line 1 8) (limitsIn line) (pricesIn line)
 
-module _ (line : List ℕ) (f : shapeOf line ≡ fit choosing) where
+module _ (line : List ℕ) (f : shapeOf line ≡ fit best-line) where
   reply : replyTo line ≡ pricedReply (pricesIn line) (asked line)
   unfolding served
-  reply = reply-fit line choosing f
+  reply = reply-fit line best-line f
 
   is-best : (c : List Part) → (asked line ≡ gives (field line 1 8) c) ↔ IsBest (field line 1 8) (limitsIn line) (pricesIn line) c
   is-best = given-is-best (field line 1 8) (limitsIn line) (pricesIn line)

@@ -1,14 +1,14 @@
 -- Replies to lines.
---   ReplyDigits  the digits of replies
+--   ReplyDigits  the digits of replies; ReplyDigitLaws says how many there are
 --   Replies      the reply to a line, and what a call answers and leaves behind: the definitions that the contract rests on
 --   ReadBack     digits that were written, read back as fields
 --   ReplyLaws    515 characters; every reply is a frame; a chain's reply read back
---   Refusals     a line is refused with 2 to 11 only
+--   Refusals     which numbers a line is refused with, kind by kind
 --   LineTrips    demand 2, line by line
 --   BestLines    demand 3, line by line
---   Put          digits written into the bytes that are lent for a reply
---   Calls        what the calls that serve a line ask for and leave
+--   Put, Calls   what the functions inside this crate ask for and leave; PutLaws is the theory of digits put one after the other
 pub mod ReplyDigits
+pub mod ReplyDigitLaws
 pub mod Replies
 pub mod ReadBack
 pub mod ReplyLaws
@@ -16,4 +16,5 @@ pub mod Refusals
 pub mod LineTrips
 pub mod BestLines
 pub mod Put
+pub mod PutLaws
 pub mod Calls

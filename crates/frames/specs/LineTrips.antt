@@ -10,7 +10,7 @@ use mathlib.Core.Bool.{true}
 use mathlib.Core.List.{List, [], map, _++_, append-nil, append-assoc}
 use mathlib.Core.Option.{some}
 use Prim.Native.Nat.{ℕ, _+_, _*_, _^_, _≤_, _<_}
-use native.Mathlib.Nat.{mul-assoc}
+use native.Mathlib.Nat.{mul-assoc, add-zero}
 use native.Mathlib.Omega.{arith}
 use lib.Dec.{T}
 use lib.ListN.{length, length-map, length-append}
@@ -23,49 +23,44 @@ use Rattle.chains.specs.Bounds.{word-bound, parts-bound}
 use Rattle.parts.specs.Parts.{partNumber}
 use Rattle.ranking.specs.Services.{Outcome, refused, gives, atPosition, ofWord, nextOf, ofRecord}
 use Rattle.ranking.specs.Outcomes.{at-past, at-chain, of-chain, next-below, next-last, record-chain}
-use Rattle.digits.specs.Digits.{isDigit, digitsOf}
+use Rattle.digits.specs.Digits.{isDigit, every, allDigits, digitsOf}
 use Rattle.digits.specs.DigitLaws.{every-append, length-digits, allDigits-digits}
-use Rattle.lines.specs.Kinds.{Kind, counting, choosing, placing, recording, wording, following, kindOf, byteOf, bytesIn}
-use Rattle.lines.specs.Lines.{field, fields, fieldsIn}
-use Rattle.lines.specs.LineLaws.{Fit, line-fit, kind-byte}
-use Rattle.frames.specs.ReplyDigits.{valuesDigits, chainDigits, length-values, every-values}
+use Rattle.lines.specs.Kinds.{Kind, count-line, best-line, at-line, record-line, word-line, next-line, rowOf, kindOf}
+use Rattle.lines.specs.Lines.{field, fields, countIn, bytesIn, itemsIn, Fit}
+use Rattle.lines.specs.LineLaws.{line-fit, kind-byte, row-small}
+use Rattle.frames.specs.ReplyDigits.{valuesDigits, headBytes, chainDigits}
+use Rattle.frames.specs.ReplyDigitLaws.{length-values, every-values}
 use Rattle.frames.specs.ReadBack.{Fitting, field-after, field-first, fields-after, fields-first, ChainRead}
 use Rattle.frames.specs.Replies.{refusedAs, servedWith, chainReply, served, replyTo}
-use Rattle.frames.specs.ReplyLaws.{reply-fit, served-kind, Sound, endsWithChain, served-chain, numbers-fit, position-low, reply-read}
+use Rattle.frames.specs.ReplyLaws.{reply-fit, served-kind, Sound, endsWithChain, served-chain, numbers-fit, position-low}
+use Rattle.frames.specs.ReplyLaws.{reply-read}
 
 -- ---- lines made of values
 
 -- 03, n, a position.
 unfoldable pub atLine : ℕ → ℕ → List ℕ
-atLine n i = digitsOf 2 (byteOf placing) ++ (digitsOf 16 n ++ digitsOf 16 i)
+atLine n i = digitsOf 2 (rowOf at-line .byte) ++ (digitsOf 16 n ++ digitsOf 16 i)
 
--- A kind, how many values there are, the values of `width` bytes each: a record, a word, a word for the next chain.
-unfoldable pub listLine : Kind → ℕ → List ℕ → List ℕ
-listLine k width xs = digitsOf 2 (byteOf k) ++ (digitsOf 2 (length xs) ++ valuesDigits width xs)
+-- A line with items: its kind, what stands before the count, how many items there are, what stands after the count, the items.
+unfoldable pub itemsLine : Kind → List ℕ → List ℕ → List ℕ → List ℕ
+itemsLine k front mid xs =
+    digitsOf 2 (rowOf k .byte) ++ (front ++ (digitsOf 2 (length xs) ++ (mid ++ valuesDigits (rowOf k .width) xs)))
 
+-- A record, a word, a word for the next chain: nothing else stands before the items.
 abbrev pub recordLine : List ℕ → List ℕ
-recordLine numbers = listLine recording 2 numbers
+recordLine numbers = itemsLine record-line [] [] numbers
 
 abbrev pub wordLine : Word → List ℕ
-wordLine w = listLine wording 1 w
+wordLine w = itemsLine word-line [] [] w
 
 abbrev pub nextLine : Word → List ℕ
-nextLine w = listLine following 1 w
+nextLine w = itemsLine next-line [] [] w
 
 -- ---- they are fit, and hold the values
 
-byte-low : (k : Kind) → byteOf k < 16 ^ (2 * 1)
-unfolding byteOf
-byte-low counting = omega arith
-byte-low choosing = omega arith
-byte-low placing = omega arith
-byte-low recording = omega arith
-byte-low wording = omega arith
-byte-low following = omega arith
-
 -- The first byte of a line is its kind's.
-first-byte : (k : Kind) (l : List ℕ) → kindOf (field (digitsOf 2 (byteOf k) ++ l) 0 1) ≡ some k
-first-byte k l = ap kindOf (field-first 1 (byteOf k) l (byte-low k)) ∙ kind-byte k
+first-byte : (k : Kind) (l : List ℕ) → kindOf (field (digitsOf 2 (rowOf k .byte) ++ l) 0 1) ≡ some k
+first-byte k l = ap kindOf (field-first 1 (rowOf k .byte) l (omega (arith, row-small k .byte-fits))) ∙ kind-byte k
 
 -- A line of kind 03.
 module _ (n i : ℕ) where
@@ -73,86 +68,106 @@ module _ (n i : ℕ) where
   unfolding atLine
   length-at = simp (length-append, length-digits)
 
-  at-fit : Fit (atLine n i) placing
-  unfolding atLine bytesIn
+  at-fit : Fit (atLine n i) at-line
+  unfolding atLine bytesIn rowOf
   at-fit =
       record {
         proper = record { some-there = omega (arith, length-at); even = omega (arith, length-at); most = omega (arith, length-at) };
         digits = simp (every-append, allDigits-digits);
-        kind = first-byte placing (digitsOf 16 n ++ digitsOf 16 i);
-        long = length-at;
+        kind = first-byte at-line (digitsOf 16 n ++ digitsOf 16 i);
+        long = omega (arith, length-at);
       }
 
   at-number : n < 2 ^ 64 → field (atLine n i) 1 8 ≡ n
   unfolding atLine
   at-number f =
-      field-after 1 0 8 (digitsOf 2 (byteOf placing)) (digitsOf 16 n ++ digitsOf 16 i) (length-digits 2 (byteOf placing))
+      field-after 1 0 8 (digitsOf 2 (rowOf at-line .byte)) (digitsOf 16 n ++ digitsOf 16 i) (length-digits 2 (rowOf at-line .byte))
       ∙ field-first 8 n (digitsOf 16 i) (omega arith)
 
   at-position : i < 2 ^ 64 → field (atLine n i) 9 8 ≡ i
   unfolding atLine
   at-position f =
-      field-after 1 8 8 (digitsOf 2 (byteOf placing)) (digitsOf 16 n ++ digitsOf 16 i) (length-digits 2 (byteOf placing))
+      field-after 1 8 8 (digitsOf 2 (rowOf at-line .byte)) (digitsOf 16 n ++ digitsOf 16 i) (length-digits 2 (rowOf at-line .byte))
       ∙ field-after 8 0 8 (digitsOf 16 n) (digitsOf 16 i) (length-digits 16 n)
       ∙ ap (λ (l : List ℕ). field l 0 8) (sym (append-nil (digitsOf 16 i)))
       ∙ field-first 8 i [] (omega arith)
 
   at-reply : n < 2 ^ 64 → i < 2 ^ 64 → replyTo (atLine n i) ≡ chainReply (atPosition n i)
   unfolding served
-  at-reply f g = reply-fit (atLine n i) placing (line-fit (atLine n i) placing at-fit) ∙ rw (at-number f, at-position g)
+  at-reply f g = reply-fit (atLine n i) at-line (line-fit (atLine n i) at-line at-fit) ∙ rw (at-number f, at-position g)
 
--- A line of values, as many as fit into it.
-module _ (k : Kind) (width : ℕ) (xs : List ℕ) (few : length xs ≤ 255) (short : width * length xs ≤ 255)
-    (bytes : (c : ℕ) → bytesIn k c ≡ 2 + width * c) where
-  length-list : length (listLine k width xs) ≡ 2 * (2 + width * length xs)
-  unfolding listLine
-  length-list = simp (length-append, length-digits, length-values) (omega (arith, mul-assoc 2 width (length xs)))
+-- A line with items, as many as fit into it. f bytes stand before the count, and m after it.
+module _ (k : Kind) (front mid xs : List ℕ) (f m : ℕ) (few : length xs ≤ 255)
+    (front-long : length front ≡ 2 * f) (mid-long : length mid ≡ 2 * m) (count-place : rowOf k .countAt ≡ 1 + f)
+    (items-place : rowOf k .before ≡ 1 + f + 1 + m)
+    (short : 1 + f + 1 + m + rowOf k .width * length xs ≤ 257) (front-digits : allDigits front ≡ true)
+    (mid-digits : allDigits mid ≡ true) where
+  abbrev width : ℕ
+  width = rowOf k .width
 
-  list-count : field (listLine k width xs) 1 1 ≡ length xs
-  unfolding listLine
-  list-count =
-      field-after 1 0 1 (digitsOf 2 (byteOf k)) (digitsOf 2 (length xs) ++ valuesDigits width xs) (length-digits 2 (byteOf k))
-      ∙ field-first 1 (length xs) (valuesDigits width xs) (omega arith)
+  length-items : length (itemsLine k front mid xs) ≡ 2 * (1 + f + 1 + m + width * length xs)
+  unfolding itemsLine
+  length-items =
+      simp (length-append, length-digits, length-values, front-long, mid-long) (omega (arith, mul-assoc 2 width (length xs)))
 
-  list-fit : Fit (listLine k width xs) k
-  unfolding listLine
-  list-fit =
-      let n = length-list in
+  items-count : countIn k (itemsLine k front mid xs) ≡ length xs
+  unfolding itemsLine countIn
+  items-count =
+      let rest = mid ++ valuesDigits width xs in
+      rw count-place
+      (field-after 1 f 1 (digitsOf 2 (rowOf k .byte)) (front ++ (digitsOf 2 (length xs) ++ rest)) (length-digits 2 (rowOf k .byte))
+      ∙ rw (← add-zero f) (field-after f 0 1 front (digitsOf 2 (length xs) ++ rest) front-long)
+      ∙ field-first 1 (length xs) rest (omega arith))
+
+  items-line-fit : Fit (itemsLine k front mid xs) k
+  unfolding itemsLine bytesIn
+  items-line-fit =
+      let n = length-items in
       record {
         proper = record { some-there = omega arith; even = omega arith; most = omega arith };
-        digits = simp (every-append, allDigits-digits, every-values isDigit allDigits-digits);
-        kind = first-byte k (digitsOf 2 (length xs) ++ valuesDigits width xs);
-        long = n ∙ rw (list-count, bytes);
+        digits = simp (every-append, allDigits-digits, every-values isDigit allDigits-digits, front-digits, mid-digits);
+        kind = first-byte k (front ++ (digitsOf 2 (length xs) ++ (mid ++ valuesDigits width xs)));
+        long = n ∙ rw (items-count, items-place);
       }
 
-  list-values : Fitting width xs → fieldsIn width (listLine k width xs) ≡ xs
-  unfolding fieldsIn listLine
-  list-values f =
-      rw (list-count, ← append-assoc (digitsOf 2 (byteOf k)) (digitsOf 2 (length xs)) (valuesDigits width xs))
-      (fields-after 2 0 width (length xs) (digitsOf 2 (byteOf k) ++ digitsOf 2 (length xs)) (valuesDigits width xs) (simp (length-append, length-digits))
+  items-values : Fitting width xs → itemsIn k (itemsLine k front mid xs) ≡ xs
+  unfolding itemsIn itemsLine
+  items-values fits =
+      let a = digitsOf 2 (rowOf k .byte) in
+      let b = digitsOf 2 (length xs) in
+      let head = a ++ front ++ b ++ mid in
+      let whole : a ++ (front ++ (b ++ (mid ++ valuesDigits width xs))) ≡ head ++ valuesDigits width xs = simp append-assoc in
+      let long : length head ≡ 2 * (1 + f + 1 + m) = simp (length-append, length-digits, front-long, mid-long) (omega arith) in
+      let at : rowOf k .before ≡ 1 + f + 1 + m + 0 = omega arith in
+      rw (items-count, at, whole)
+      (fields-after (1 + f + 1 + m) 0 width (length xs) head (valuesDigits width xs) long
       ∙ ap (λ (l : List ℕ). fields l 0 width (length xs)) (sym (append-nil (valuesDigits width xs)))
-      ∙ fields-first width xs [] f)
+      ∙ fields-first width xs [] fits)
 
-  list-reply : (outcome : List ℕ → Outcome) → ((line : List ℕ) → served k line ≡ chainReply (outcome (fieldsIn width line))) → Fitting width xs
-      → replyTo (listLine k width xs) ≡ chainReply (outcome xs)
-  list-reply outcome e f =
-      reply-fit (listLine k width xs) k (line-fit (listLine k width xs) k list-fit)
-      ∙ e (listLine k width xs)
-      ∙ ap (λ (l : List ℕ). chainReply (outcome l)) (list-values f)
+  items-reply : (outcome : List ℕ → Outcome) → ((line : List ℕ) → served k line ≡ chainReply (outcome (itemsIn k line)))
+      → Fitting width xs
+      → replyTo (itemsLine k front mid xs) ≡ chainReply (outcome xs)
+  items-reply outcome e fits =
+      reply-fit (itemsLine k front mid xs) k (line-fit (itemsLine k front mid xs) k items-line-fit)
+      ∙ e (itemsLine k front mid xs)
+      ∙ ap (λ (l : List ℕ). chainReply (outcome l)) (items-values fits)
 
 -- The replies to a record, a word, and a word for the next chain.
 pub record-reply : (l : List ℕ) → length l ≤ 127 → Fitting 2 l → replyTo (recordLine l) ≡ chainReply (ofRecord l)
-unfolding served bytesIn
-record-reply l h f = list-reply recording 2 l (omega arith) (omega arith) (λ b. refl) ofRecord (λ line. refl) f
+unfolding served rowOf every
+record-reply l h fits =
+    items-reply record-line [] [] l 0 0 (omega arith) refl refl refl refl (omega arith) refl refl ofRecord (λ line. refl) fits
 
-module _ (w : Word) (h : length w ≤ 255) (f : Fitting 1 w) where
+module _ (w : Word) (h : length w ≤ 255) (fits : Fitting 1 w) where
   pub word-reply : replyTo (wordLine w) ≡ chainReply (ofWord w)
-  unfolding served bytesIn
-  word-reply = list-reply wording 1 w h (omega arith) (λ b. omega arith) ofWord (λ line. refl) f
+  unfolding served rowOf every
+  word-reply = items-reply word-line [] [] w 0 0 h refl refl refl refl (omega arith) refl refl ofWord (λ line. refl) fits
 
   pub next-reply : replyTo (nextLine w) ≡ chainReply (nextOf (ofWord w))
-  unfolding served bytesIn
-  next-reply = list-reply following 1 w h (omega arith) (λ b. omega arith) (λ (l : Word). nextOf (ofWord l)) (λ line. refl) f
+  unfolding served rowOf every
+  next-reply =
+      items-reply next-line [] [] w 0 0 h refl refl refl refl (omega arith) refl refl (λ (l : Word). nextOf (ofWord l))
+      (λ line. refl) fits
 
 -- ---- all lines about one chain
 
@@ -181,7 +196,8 @@ chain-lines n c h f =
       placed = at-reply n (position n c) f (omega arith) ∙ ap chainReply (at-chain n c h);
       burned = record-reply (map partNumber c) few (numbers-fit n c h f) ∙ ap chainReply (record-chain n c h f);
       spelled = word-reply (wordOf c) short fit ∙ ap chainReply (of-chain n c h f);
-      followed = λ l. next-reply (wordOf c) short fit ∙ ap chainReply (next-below n c h f l) ∙ sym (at-reply n (position n c + 1) f low);
+      followed = λ l. next-reply (wordOf c) short fit ∙ ap chainReply (next-below n c h f l)
+          ∙ sym (at-reply n (position n c + 1) f low);
       last = λ l. next-reply (wordOf c) short fit ∙ ap chainReply (next-last n c h f l);
     }
 
@@ -195,7 +211,7 @@ past-count n i f g l = at-reply n i f g ∙ rw (at-past n i l)
 -- The lines of kinds 03 and 04 made of what stands in ds, n and position or the part numbers, are served with ds.
 pub record Leads (ds : List ℕ) : Type 0 where
   pub placed : replyTo (atLine (field ds 1 8) (field ds 9 8)) ≡ servedWith ds
-  pub burned : replyTo (recordLine (fields ds 18 2 (field ds 17 1))) ≡ servedWith ds
+  pub burned : replyTo (recordLine (fields ds headBytes 2 (field ds 17 1))) ≡ servedWith ds
 
 pub chain-leads : (n : ℕ) (c : List Part) → ChainOf n c → n < 2 ^ 64 → Leads (chainDigits n (position n c) (map partNumber c))
 unfolding chainReply
@@ -221,17 +237,20 @@ outcome-leads o s ds e = go o refl
         rw same at (chain-leads n c (s .chain n c g) (s .fits n c g))
 
 -- So do all replies of the kinds 03, 04, 05 and 06.
-pub reply-leads : (line ds : List ℕ) (k : Kind) → kindOf (field line 0 1) ≡ some k → T (endsWithChain k) → replyTo line ≡ servedWith ds → Leads ds
+pub reply-leads : (line ds : List ℕ) (k : Kind) → kindOf (field line 0 1) ≡ some k → T (endsWithChain k)
+    → replyTo line ≡ servedWith ds → Leads ds
 reply-leads line ds k first t e =
     let (o, sound, f) = served-chain k line t in
     outcome-leads o sound ds (sym f ∙ served-kind line ds k first e)
 
 -- A burned record in particular: what its reply tells, asked for at that position, gets the same digits.
-pub record-then-at : (l ds : List ℕ) → replyTo (recordLine l) ≡ servedWith ds → replyTo (atLine (field ds 1 8) (field ds 9 8)) ≡ servedWith ds
-unfolding listLine endsWithChain
-record-then-at l ds e = reply-leads (recordLine l) ds recording (first-byte recording (digitsOf 2 (length l) ++ valuesDigits 2 l)) tt e .placed
+pub record-then-at : (l ds : List ℕ) → replyTo (recordLine l) ≡ servedWith ds
+    → replyTo (atLine (field ds 1 8) (field ds 9 8)) ≡ servedWith ds
+unfolding itemsLine endsWithChain
+record-then-at l ds e = reply-leads (recordLine l) ds record-line (first-byte record-line _) tt e .placed
 
 -- And back: the part numbers that stand in the reply at a position, read as a record, get the same digits.
-pub at-then-record : (n i : ℕ) (ds : List ℕ) → replyTo (atLine n i) ≡ servedWith ds → replyTo (recordLine (fields ds 18 2 (field ds 17 1))) ≡ servedWith ds
+pub at-then-record : (n i : ℕ) (ds : List ℕ) → replyTo (atLine n i) ≡ servedWith ds
+    → replyTo (recordLine (fields ds headBytes 2 (field ds 17 1))) ≡ servedWith ds
 unfolding atLine endsWithChain
-at-then-record n i ds e = reply-leads (atLine n i) ds placing (first-byte placing (digitsOf 16 n ++ digitsOf 16 i)) tt e .burned
+at-then-record n i ds e = reply-leads (atLine n i) ds at-line (first-byte at-line _) tt e .burned

@@ -11,7 +11,9 @@ use lib.Seq.{take-at, drop-append-add}
 use Rattle.digits.specs.Digits.{digitsOf}
 use Rattle.digits.specs.DigitLaws.{length-digits, number-digits}
 use Rattle.lines.specs.Lines.{field, fields}
-use Rattle.frames.specs.ReplyDigits.{countDigits, valuesDigits, numbersDigits, headDigits, chainDigits, pricedDigits, length-head, length-chain}
+use Rattle.frames.specs.ReplyDigits.{countDigits, valuesDigits, numbersDigits, headDigits, headBytes, chainDigits}
+use Rattle.frames.specs.ReplyDigits.{pricedDigits}
+use Rattle.frames.specs.ReplyDigitLaws.{length-head, length-chain}
 
 -- ---- one field
 
@@ -45,7 +47,13 @@ fields-first width (x ∷ xs) l h =
     let d = digitsOf (2 * width) x in
     let rest = valuesDigits width xs ++ l in
     let z : 0 + width ≡ width + 0 = omega arith in
-    rw (append-assoc, field-first width x rest (h 0 (omega arith)), z, fields-after width 0 width (length xs) d rest (length-digits (2 * width) x))
+    rw (
+      append-assoc,
+      field-first width x rest (h 0 (omega arith)),
+      z,
+      fields-after width 0 width (length xs) d rest
+          (length-digits (2 * width) x),
+    )
     (ap (λ (ys : List ℕ). x ∷ ys) (fields-first width xs l (λ i g. h (suc i) (omega arith))))
 
 -- ---- replies
@@ -64,37 +72,49 @@ pub record ChainRead (n position : ℕ) (numbers ds : List ℕ) : Type 0 where
   pub number : field ds 1 8 ≡ n
   pub place : field ds 9 8 ≡ position
   pub parts : field ds 17 1 ≡ length numbers
-  pub each : fields ds 18 2 (length numbers) ≡ numbers
+  pub each : fields ds headBytes 2 (length numbers) ≡ numbers
 
-module _ (n position : ℕ) (numbers rest : List ℕ) (f : n < 2 ^ 64) (g : position < 2 ^ 64) (few : length numbers ≤ 64) (fit : Fitting 2 numbers) where
+module _ (n position : ℕ) (numbers rest : List ℕ) (f : n < 2 ^ 64) (g : position < 2 ^ 64) (few : length numbers ≤ 64)
+    (fit : Fitting 2 numbers) where
+  numbers-read : fields (chainDigits n position numbers ++ rest) headBytes 2 (length numbers) ≡ numbers
+  unfolding chainDigits
+  numbers-read =
+      let head = headDigits n position numbers in
+      rw (append-assoc head (numbersDigits numbers) rest)
+      (fields-after headBytes 0 2 (length numbers) head (numbersDigits numbers ++ rest) (length-head n position numbers)
+      ∙ fields-first 2 numbers rest fit)
+
+  -- `more` is what stands after the number of parts.
   pub chain-read : ChainRead n position numbers (chainDigits n position numbers ++ rest)
   unfolding chainDigits headDigits
   chain-read =
+      let ds = chainDigits n position numbers ++ rest in
       let a = digitsOf 2 0 in
       let b = digitsOf 16 n in
       let c = digitsOf 16 position in
       let d = digitsOf 2 (length numbers) in
-      let e = numbersDigits numbers in
-      let h : a ++ b ++ c ++ d ++ e ++ rest ≡ a ++ (b ++ (c ++ (d ++ (e ++ rest)))) = simp append-assoc in
-      let after-a : (at k : ℕ) → field (a ++ b ++ c ++ d ++ e ++ rest) (1 + at) k ≡ field (b ++ (c ++ (d ++ (e ++ rest)))) at k =
-      λ at k. rw h (field-after 1 at k a (b ++ (c ++ (d ++ (e ++ rest)))) (length-digits 2 0)) in
-      let after-b : (at k : ℕ) → field (a ++ b ++ c ++ d ++ e ++ rest) (1 + (8 + at)) k ≡ field (c ++ (d ++ (e ++ rest))) at k =
-      λ at k. after-a (8 + at) k ∙ field-after 8 at k b (c ++ (d ++ (e ++ rest))) (length-digits 16 n) in
+      let more = numbersDigits numbers ++ rest in
+      let whole : ds ≡ a ++ (b ++ (c ++ (d ++ more))) = simp append-assoc in
+      let after-a : (at k : ℕ) → field ds (1 + at) k ≡ field (b ++ (c ++ (d ++ more))) at k =
+      λ at k. rw whole (field-after 1 at k a (b ++ (c ++ (d ++ more))) (length-digits 2 0)) in
+      let after-b : (at k : ℕ) → field ds (1 + (8 + at)) k ≡ field (c ++ (d ++ more)) at k =
+      λ at k. after-a (8 + at) k ∙ field-after 8 at k b (c ++ (d ++ more)) (length-digits 16 n) in
       record {
-        zero-first = rw h (field-first 1 0 (b ++ (c ++ (d ++ (e ++ rest)))) (omega arith));
-        number = after-a 0 8 ∙ field-first 8 n (c ++ (d ++ (e ++ rest))) (omega arith);
-        place = after-b 0 8 ∙ field-first 8 position (d ++ (e ++ rest)) (omega arith);
-        parts = after-b 8 1 ∙ field-after 8 0 1 c (d ++ (e ++ rest)) (length-digits 16 position) ∙ field-first 1 (length numbers) (e ++ rest) (omega arith);
-        each = rw (append-assoc (a ++ b ++ c ++ d) e rest)
-            (fields-after 18 0 2 (length numbers) (a ++ b ++ c ++ d) (e ++ rest) (length-head n position (length numbers)) ∙ fields-first 2 numbers rest fit);
+        zero-first = rw whole (field-first 1 0 (b ++ (c ++ (d ++ more))) (omega arith));
+        number = after-a 0 8 ∙ field-first 8 n (c ++ (d ++ more)) (omega arith);
+        place = after-b 0 8 ∙ field-first 8 position (d ++ more) (omega arith);
+        parts = after-b 8 1 ∙ field-after 8 0 1 c (d ++ more) (length-digits 16 position)
+            ∙ field-first 1 (length numbers) more (omega arith);
+        each = numbers-read;
       }
 
 -- The price follows the last part number.
 pub price-read : (n position : ℕ) (numbers : List ℕ) (price : ℕ) → price < 2 ^ 32
-    → field (pricedDigits n position numbers price) (18 + 2 * length numbers) 4 ≡ price
+    → field (pricedDigits n position numbers price) (headBytes + 2 * length numbers) 4 ≡ price
 unfolding pricedDigits
 price-read n position numbers price h =
-    let at = 18 + 2 * length numbers in
+    let at = headBytes + 2 * length numbers in
     let ds = chainDigits n position numbers in
-    let long : length ds ≡ 2 * at = omega (arith, length-chain n position numbers) in
-    rw (← append-nil (digitsOf 8 price), ← add-zero at) (field-after at 0 4 ds (digitsOf 8 price ++ []) long ∙ field-first 4 price [] (omega arith))
+    let long : length ds ≡ 2 * at = length-chain n position numbers in
+    rw (← append-nil (digitsOf 8 price), ← add-zero at)
+    (field-after at 0 4 ds (digitsOf 8 price ++ []) long ∙ field-first 4 price [] (omega arith))

@@ -14,8 +14,8 @@ use Rattle.lent.specs.Lent.{filled}
 use Rattle.ranking.specs.Services.{Outcome, refused, gives, atPosition, ofWord, nextOf, ofRecord}
 use Rattle.best.specs.Chosen.{bestOutcome}
 use Rattle.digits.specs.Digits.{digitsOf}
-use Rattle.lines.specs.Kinds.{Kind, counting, choosing, placing, recording, wording, following}
-use Rattle.lines.specs.Lines.{field, Shape, unfit, fit, shapeOf, lettersIn, numbersIn}
+use Rattle.lines.specs.Kinds.{Kind, count-line, best-line, at-line, record-line, word-line, next-line}
+use Rattle.lines.specs.Lines.{field, itemsIn, Shape, unfit, fit, shapeOf}
 use Rattle.frames.specs.ReplyDigits.{countDigits, chainDigits, pricedDigits}
 use Rattle.frames.specs.declared.Replied.{Replied}
 use Rattle.frames.specs.declared.Replied.the-variants as replied
@@ -53,12 +53,12 @@ pricesIn line = record { d = field line 12 2; t = field line 14 2; s = field lin
 
 -- The reply to a fit line of a kind, by the services' own definitions.
 unfoldable pub served : Kind → List ℕ → Reply
-served counting line = servedWith (countDigits (count (field line 1 8)))
-served choosing line = pricedReply (pricesIn line) (bestOutcome (field line 1 8) (limitsIn line) (pricesIn line))
-served placing line = chainReply (atPosition (field line 1 8) (field line 9 8))
-served recording line = chainReply (ofRecord (numbersIn line))
-served wording line = chainReply (ofWord (lettersIn line))
-served following line = chainReply (nextOf (ofWord (lettersIn line)))
+served count-line line = servedWith (countDigits (count (field line 1 8)))
+served best-line line = pricedReply (pricesIn line) (bestOutcome (field line 1 8) (limitsIn line) (pricesIn line))
+served at-line line = chainReply (atPosition (field line 1 8) (field line 9 8))
+served record-line line = chainReply (ofRecord (itemsIn record-line line))
+served word-line line = chainReply (ofWord (itemsIn word-line line))
+served next-line line = chainReply (nextOf (ofWord (itemsIn next-line line)))
 
 unfoldable pub replyByShape : Shape → List ℕ → Reply
 replyByShape (unfit r) line = refusedAs r

@@ -1,16 +1,9 @@
 -- The digits of replies: document 01, 'Frames'.
--- The definitions, then how many digits there are, a test that they all pass, and those of one part number more.
-use mathlib.Core.Path.{_≡_, refl}
-use mathlib.Core.Bool.{Bool, true}
-use mathlib.Core.List.{List, [], _∷_, _++_, append-nil, append-assoc}
-use Prim.Native.Nat.{ℕ, _+_, _*_, _<_}
-use native.Mathlib.Nat.{mul-zero, mul-suc}
-use native.Mathlib.Numerals.{add-one}
-use native.Mathlib.Omega.{arith}
-use lib.ListN.{length, getD, take, length-append}
-use lib.Seq.{take-suc}
-use Rattle.digits.specs.Digits.{every, digitsOf}
-use Rattle.digits.specs.DigitLaws.{every-append, length-digits}
+-- Definitions only; how many digits there are is in ReplyDigitLaws.
+use mathlib.Core.List.{List, [], _∷_, _++_}
+use Prim.Native.Nat.{ℕ, _+_, _*_}
+use lib.ListN.{length}
+use Rattle.digits.specs.Digits.{digitsOf}
 
 -- A count: 00, then the count.
 unfoldable pub countDigits : ℕ → List ℕ
@@ -24,49 +17,18 @@ valuesDigits width (x ∷ xs) = digitsOf (2 * width) x ++ valuesDigits width xs
 abbrev pub numbersDigits : List ℕ → List ℕ
 numbersDigits numbers = valuesDigits 2 numbers
 
--- A chain: 00, n, its position and the number k of its parts, then the parts' numbers.
-unfoldable pub headDigits : ℕ → ℕ → ℕ → List ℕ
-headDigits n position k = digitsOf 2 0 ++ digitsOf 16 n ++ digitsOf 16 position ++ digitsOf 2 k
+-- What stands before a chain's part numbers: 00, n, its position and the number of its parts.
+unfoldable pub headDigits : ℕ → ℕ → List ℕ → List ℕ
+headDigits n position numbers = digitsOf 2 0 ++ digitsOf 16 n ++ digitsOf 16 position ++ digitsOf 2 (length numbers)
 
+-- How many bytes these are (`length-head`).
+abbrev pub headBytes : ℕ
+headBytes = 1 + 8 + 8 + 1
+
+-- A chain: its head, then its part numbers.
 unfoldable pub chainDigits : ℕ → ℕ → List ℕ → List ℕ
-chainDigits n position numbers = headDigits n position (length numbers) ++ numbersDigits numbers
+chainDigits n position numbers = headDigits n position numbers ++ numbersDigits numbers
 
 -- A chain and its price.
 unfoldable pub pricedDigits : ℕ → ℕ → List ℕ → ℕ → List ℕ
 pricedDigits n position numbers price = chainDigits n position numbers ++ digitsOf 8 price
-
-pub length-count : (count : ℕ) → length (countDigits count) ≡ 18
-unfolding countDigits
-length-count count = simp (length-append, length-digits)
-
-pub length-values : (width : ℕ) (xs : List ℕ) → length (valuesDigits width xs) ≡ 2 * width * length xs
-unfolding valuesDigits
-length-values width [] = rw mul-zero
-length-values width (x ∷ xs) = simp (length-append, length-digits, length-values width xs, mul-suc) (omega arith)
-
-pub length-head : (n position k : ℕ) → length (headDigits n position k) ≡ 36
-unfolding headDigits
-length-head n position k = simp (length-append, length-digits)
-
-pub length-chain : (n position : ℕ) (numbers : List ℕ) → length (chainDigits n position numbers) ≡ 36 + 4 * length numbers
-unfolding chainDigits
-length-chain n position numbers = simp (length-append, length-head, length-values)
-
-pub length-priced : (n position : ℕ) (numbers : List ℕ) (price : ℕ)
-    → length (pricedDigits n position numbers price) ≡ 36 + 4 * length numbers + 8
-unfolding pricedDigits
-length-priced n position numbers price = simp (length-append, length-chain, length-digits)
-
-pub every-values : (p : ℕ → Bool) → ((k n : ℕ) → every p (digitsOf k n) ≡ true) → (width : ℕ) (xs : List ℕ)
-    → every p (valuesDigits width xs) ≡ true
-unfolding valuesDigits every
-every-values p h width [] = refl
-every-values p h width (x ∷ xs) = simp (every-append, h, every-values p h width xs)
-
-numbers-snoc : (xs : List ℕ) (x : ℕ) → numbersDigits (xs ++ (x ∷ [])) ≡ numbersDigits xs ++ digitsOf 4 x
-unfolding valuesDigits
-numbers-snoc [] x = append-nil (digitsOf 4 x)
-numbers-snoc (y ∷ xs) x = rw (numbers-snoc xs x, append-assoc)
-
-pub numbers-more : (xs : List ℕ) (i : ℕ) → i < length xs → numbersDigits (take (i + 1) xs) ≡ numbersDigits (take i xs) ++ digitsOf 4 (getD xs i 0)
-numbers-more xs i h = rw (add-one, take-suc xs i 0) (numbers-snoc (take i xs) (getD xs i 0))

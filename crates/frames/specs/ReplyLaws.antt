@@ -1,7 +1,7 @@
 -- Theory of the reply to a line.
 --
 -- In this order: a line's first 515 characters (`first-515`); replies by their kind; the chains of replies are chains of n; every
--- reply is an even number of digits, at least 2 and at most 300, all of them as they are written (`reply-frame`), so that it is one
+-- reply is an even number of digits, at least 2 and at most 514, all of them as they are written (`reply-frame`), so that it is one
 -- line (`reply-unbroken`); what a chain's reply is read back as (`reply-read`). That replies lead to each other, as demand 2 asks,
 -- is in LineTrips; demand 3 is in BestLines.
 use mathlib.Core.Path.{_≡_, refl}
@@ -29,14 +29,16 @@ use Rattle.best.specs.KeyTable.{Cheap}
 use Rattle.best.specs.Demand3.{given-is-best}
 use Rattle.digits.specs.Digits.{isWritten, every, digitsOf}
 use Rattle.digits.specs.DigitLaws.{every-append, length-digits, written-digits}
-use Rattle.lines.specs.Kinds.{Kind, counting, choosing, placing, recording, wording, following, kindOf}
-use Rattle.lines.specs.Lines.{field, Shape, unfit, fit, shapeOf, lettersIn, numbersIn}
+use Rattle.lines.specs.Kinds.{Kind, count-line, best-line, at-line, record-line, word-line, next-line, kindOf}
+use Rattle.lines.specs.Lines.{field, itemsIn, Shape, unfit, fit, shapeOf}
 use Rattle.lines.specs.LineLaws.{field-below, fit-line, reply-515}
 use Rattle.lines.specs.Stream.{unbroken}
 use Rattle.lines.specs.StreamLaws.{digits-unbroken}
-use Rattle.frames.specs.ReplyDigits.{countDigits, headDigits, chainDigits, pricedDigits, length-count, length-chain, length-priced, every-values}
+use Rattle.frames.specs.ReplyDigits.{countDigits, headDigits, headBytes, chainDigits, pricedDigits}
+use Rattle.frames.specs.ReplyDigitLaws.{length-count, length-chain, length-priced, every-values}
 use Rattle.frames.specs.ReadBack.{Fitting, ChainRead, chain-read}
-use Rattle.frames.specs.Replies.{servedWith, digitsIn, chainReply, pricedReply, limitsIn, pricesIn, served, replyByShape, replyTo, replyOf}
+use Rattle.frames.specs.Replies.{Reply, servedWith, digitsIn, chainReply, pricedReply, limitsIn, pricesIn, served}
+use Rattle.frames.specs.Replies.{replyByShape, replyTo, replyOf}
 
 -- ---- a line's first 515 characters
 
@@ -52,7 +54,8 @@ unfolding replyTo replyByShape
 reply-fit line k e = rw e
 
 -- A line that is served is fit, and of the kind that its first byte stands for.
-pub served-kind : (line ds : List ℕ) (k : Kind) → kindOf (field line 0 1) ≡ some k → replyTo line ≡ servedWith ds → served k line ≡ servedWith ds
+pub served-kind : (line ds : List ℕ) (k : Kind) → kindOf (field line 0 1) ≡ some k → replyTo line ≡ servedWith ds
+    → served k line ≡ servedWith ds
 unfolding replyTo replyByShape
 served-kind line ds k first e = go (shapeOf line) refl
   where
@@ -102,10 +105,12 @@ module _ (n : ℕ) (lim : Limits) (π : Prices) where
       go (some c) = given c
 
   pub best-number : (m : ℕ) (c : List Part) → bestOutcome n lim π ≡ gives m c → m ≡ n
-  best-number m c = by-best (λ (o : Outcome). o ≡ gives m c → m ≡ n) (λ e. let z : _≡_ {A = ℕ} 0 1 = cc in absurd (omega arith)) (λ d e. cc)
+  best-number m c =
+      by-best (λ (o : Outcome). o ≡ gives m c → m ≡ n) (λ e. let z : _≡_ {A = ℕ} 0 1 = cc in absurd (omega arith)) (λ d e. cc)
 
   pub best-five : (r : ℕ) → bestOutcome n lim π ≡ refused r → r ≡ 5
-  best-five r = by-best (λ (o : Outcome). o ≡ refused r → r ≡ 5) (λ e. cc) (λ d e. let z : _≡_ {A = ℕ} 0 1 = cc in absurd (omega arith))
+  best-five r =
+      by-best (λ (o : Outcome). o ≡ refused r → r ≡ 5) (λ e. cc) (λ d e. let z : _≡_ {A = ℕ} 0 1 = cc in absurd (omega arith))
 
 pub best-sound : (n : ℕ) (lim : Limits) (π : Prices) → n < 2 ^ 64 → Cheap π → Sound (bestOutcome n lim π)
 best-sound n lim π f cheap =
@@ -129,35 +134,50 @@ prices-cheap line =
 
 -- The kinds whose replies end with the part numbers: 03 to 06.
 unfoldable pub endsWithChain : Kind → Bool
-endsWithChain counting = false
-endsWithChain choosing = false
-endsWithChain placing = true
-endsWithChain recording = true
-endsWithChain wording = true
-endsWithChain following = true
+endsWithChain count-line = false
+endsWithChain best-line = false
+endsWithChain at-line = true
+endsWithChain record-line = true
+endsWithChain word-line = true
+endsWithChain next-line = true
+
+-- What a reply to a fit line is made of: a count, or what a service gave, and it ends with the part numbers or it does not.
+data Made (ends : Bool) (x : Reply) : Type 0 where
+  counted : (n : ℕ) → ends ≡ false → x ≡ servedWith (countDigits n) → Made ends x
+  chained : (o : Outcome) → Sound o → x ≡ chainReply o → Made ends x
+  priced : (o : Outcome) (π : Prices) → ends ≡ false → Sound o → x ≡ pricedReply π o → Made ends x
+
+made : (k : Kind) (line : List ℕ) → Made (endsWithChain k) (served k line)
+unfolding endsWithChain served
+made count-line line = counted (count (field line 1 8)) refl refl
+made best-line line =
+    let π = pricesIn line in
+    priced (bestOutcome (field line 1 8) (limitsIn line) π) π refl
+    (best-sound (field line 1 8) (limitsIn line) π (number-low line 1) (prices-cheap line)) refl
+made at-line line =
+    chained (atPosition (field line 1 8) (field line 9 8)) (at-sound (field line 1 8) (field line 9 8) (number-low line 1)) refl
+made record-line line = chained (ofRecord (itemsIn record-line line)) (record-sound (itemsIn record-line line)) refl
+made word-line line = chained (ofWord (itemsIn word-line line)) (word-sound (itemsIn word-line line)) refl
+made next-line line = chained (nextOf (ofWord (itemsIn next-line line))) (next-sound (itemsIn next-line line)) refl
 
 pub served-chain : (k : Kind) (line : List ℕ) → T (endsWithChain k) → (o : Outcome) × Sound o × (served k line ≡ chainReply o)
-unfolding endsWithChain served
-served-chain counting line t = absurd t
-served-chain choosing line t = absurd t
-served-chain placing line t =
-    let n = field line 1 8 in
-    let i = field line 9 8 in
-    (atPosition n i, at-sound n i (number-low line 1), refl)
-served-chain recording line t = (ofRecord (numbersIn line), record-sound (numbersIn line), refl)
-served-chain wording line t = (ofWord (lettersIn line), word-sound (lettersIn line), refl)
-served-chain following line t = (nextOf (ofWord (lettersIn line)), next-sound (lettersIn line), refl)
+served-chain k line t = go (made k line)
+  where
+    go : Made (endsWithChain k) (served k line) → (o : Outcome) × Sound o × (served k line ≡ chainReply o)
+    go (counted n f e) = absurd (rw f at t)
+    go (chained o sound e) = (o, sound, e)
+    go (priced o π f sound e) = absurd (rw f at t)
 
 -- ---- every reply is a frame
 
--- Whole bytes, at least one and at most 150, in digits as they are written.
+-- Whole bytes, at least one and at most as many as are lent for a reply, in digits as they are written.
 pub record Frame (ds : List ℕ) : Type 0 where
   pub even : length ds % 2 ≡ 0
   pub least : 2 ≤ length ds
-  pub most : length ds ≤ 300
+  pub most : length ds ≤ 514
   pub digits : every isWritten ds ≡ true
 
-frame : (k : ℕ) (ds : List ℕ) → length ds ≡ 2 * k → 1 ≤ k → k ≤ 150 → every isWritten ds ≡ true → Frame ds
+frame : (k : ℕ) (ds : List ℕ) → length ds ≡ 2 * k → 1 ≤ k → k ≤ 257 → every isWritten ds ≡ true → Frame ds
 frame k ds n h g w = record { even = omega arith; least = omega arith; most = omega arith; digits = w }
 
 refusal-frame : (r : ℕ) → Frame (digitsOf 2 r)
@@ -165,7 +185,8 @@ refusal-frame r = frame 1 (digitsOf 2 r) (length-digits 2 r) (omega arith) (omeg
 
 count-frame : (count : ℕ) → Frame (countDigits count)
 unfolding countDigits
-count-frame count = frame 9 (countDigits count) (length-count count) (omega arith) (omega arith) (simp (every-append, written-digits))
+count-frame count =
+    frame 9 (countDigits count) (length-count count) (omega arith) (omega arith) (simp (every-append, written-digits))
 
 module _ (n position : ℕ) (numbers : List ℕ) (few : length numbers ≤ 64) where
   written-chain : every isWritten (chainDigits n position numbers) ≡ true
@@ -175,13 +196,13 @@ module _ (n position : ℕ) (numbers : List ℕ) (few : length numbers ≤ 64) w
   chain-frame : Frame (chainDigits n position numbers)
   chain-frame =
       let k = length-chain n position numbers in
-      frame (18 + 2 * length numbers) (chainDigits n position numbers) (omega arith) (omega arith) (omega arith) written-chain
+      frame (headBytes + 2 * length numbers) (chainDigits n position numbers) k (omega arith) (omega arith) written-chain
 
   priced-frame : (price : ℕ) → Frame (pricedDigits n position numbers price)
   unfolding pricedDigits
   priced-frame price =
       let k = length-priced n position numbers price in
-      frame (22 + 2 * length numbers) (pricedDigits n position numbers price) (omega arith) (omega arith) (omega arith)
+      frame (headBytes + 2 * length numbers + 4) (pricedDigits n position numbers price) k (omega arith) (omega arith)
       (simp (every-append, written-digits, written-chain))
 
 module _ (o : Outcome) (s : Sound o) where
@@ -205,21 +226,13 @@ module _ (o : Outcome) (s : Sound o) where
       go (gives n c) e = priced-frame n (position n c) (map partNumber c) (few n c e) (price π c)
 
 served-frame : (k : Kind) (line : List ℕ) → Frame (digitsIn (served k line))
-unfolding served digitsIn endsWithChain
-served-frame k line = go k
+unfolding digitsIn
+served-frame k line = go (made k line)
   where
-    by-chain : (j : Kind) → T (endsWithChain j) → Frame (digitsIn (served j line))
-    by-chain j t = let (o, sound, e) = served-chain j line t in rw e (outcome-frame o sound)
-
-    go : (j : Kind) → Frame (digitsIn (served j line))
-    go counting = count-frame (count (field line 1 8))
-    go choosing =
-        outcome-priced (bestOutcome (field line 1 8) (limitsIn line) (pricesIn line))
-        (best-sound (field line 1 8) (limitsIn line) (pricesIn line) (number-low line 1) (prices-cheap line)) (pricesIn line)
-    go placing = by-chain placing tt
-    go recording = by-chain recording tt
-    go wording = by-chain wording tt
-    go following = by-chain following tt
+    go : Made (endsWithChain k) (served k line) → Frame (digitsIn (served k line))
+    go (counted n f e) = rw e (count-frame n)
+    go (chained o sound e) = rw e (outcome-frame o sound)
+    go (priced o π f sound e) = rw e (outcome-priced o sound π)
 
 pub reply-frame : (line : List ℕ) → Frame (replyOf line)
 unfolding replyOf replyTo replyByShape digitsIn
@@ -231,7 +244,7 @@ reply-frame line = go (shapeOf line)
 
 -- So it fits into the bytes that are lent for it.
 pub reply-short : (line : List ℕ) → length (replyOf line) ≤ 514
-reply-short line = omega (arith, reply-frame line .most)
+reply-short line = reply-frame line .most
 
 -- And no byte 10 is in it.
 pub reply-unbroken : (line : List ℕ) → unbroken (replyOf line) ≡ true

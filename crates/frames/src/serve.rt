@@ -5,6 +5,7 @@ use best::Chosen;
 use best::Limits;
 use best::Prices;
 use counting::Counted;
+use lines::Items;
 use ranking::Placed;
 ghost use mathlib.Core.Path.{_≡_};
 ghost use Rattle.lent.specs.Lent.{tooLittle, Enough, scratchLeft};
@@ -12,8 +13,8 @@ ghost use Rattle.ranking.specs.Services.{lent, placesLeft};
 ghost use Rattle.best.specs.Chosen.{bestOutcome, chosenOf};
 ghost use Rattle.frames.specs.Calls.{Handled, FitAs};
 ghost use Rattle.frames.specs.Replies.{refusedAs, limitsIn, pricesIn, served, replyTo};
-ghost use Rattle.lines.specs.Kinds.{counting, choosing, placing, recording, wording, following};
-ghost use Rattle.lines.specs.LineLaws.{Fit};
+ghost use Rattle.lines.specs.Kinds.{count-line, best-line, at-line, record-line, word-line, next-line};
+ghost use Rattle.lines.specs.Lines.{Fit};
 
 // A line that is refused: the scratch is zeroed as on success.
 pub fn serve_refusal(number: u8, scratch: &mut [u64], out: &mut [u8]) -> Replied
@@ -28,7 +29,7 @@ pub fn serve_refusal(number: u8, scratch: &mut [u64], out: &mut [u8]) -> Replied
 // 01: the count.
 pub fn serve_count(line: &[u8], scratch: &mut [u64], out: &mut [u8]) -> Replied
     requires { ⌜ Enough 514 (now scratch) (now out) ⌝ }
-    ensures { λ r. ⌜ Handled (served counting (now (line .entry))) r
+    ensures { λ r. ⌜ Handled (served count-line (now (line .entry))) r
         (now (scratch .entry)) (now (scratch .exit)) (now (out .entry)) (now (out .exit)) ⌝ }
 {
     match counting::table_count(lines::field_of(line, 1, 8), scratch) {
@@ -67,7 +68,7 @@ fn best_in(n: u64, line: &[u8], scratch: &mut [u64], places: &mut [u16]) -> Chos
 // 02: the best chain.
 pub fn serve_best(line: &[u8], scratch: &mut [u64], out: &mut [u8]) -> Replied
     requires { ⌜ Enough 514 (now scratch) (now out) ⌝ }
-    ensures { λ r. ⌜ Handled (served choosing (now (line .entry))) r
+    ensures { λ r. ⌜ Handled (served best-line (now (line .entry))) r
         (now (scratch .entry)) (now (scratch .exit)) (now (out .entry)) (now (out .exit)) ⌝ }
 {
     let n = lines::field_of(line, 1, 8);
@@ -84,7 +85,7 @@ pub fn serve_best(line: &[u8], scratch: &mut [u64], out: &mut [u8]) -> Replied
 // 03: the chain at a position.
 pub fn serve_at(line: &[u8], scratch: &mut [u64], out: &mut [u8]) -> Replied
     requires { ⌜ Enough 514 (now scratch) (now out) ⌝ }
-    ensures { λ r. ⌜ Handled (served placing (now (line .entry))) r
+    ensures { λ r. ⌜ Handled (served at-line (now (line .entry))) r
         (now (scratch .entry)) (now (scratch .exit)) (now (out .entry)) (now (out .exit)) ⌝ }
 {
     let mut places = [0u16; 64];
@@ -99,42 +100,52 @@ pub fn serve_at(line: &[u8], scratch: &mut [u64], out: &mut [u8]) -> Replied
 
 // 04: a burned record. The reply repeats its part numbers.
 pub fn serve_record(line: &[u8], scratch: &mut [u64], out: &mut [u8]) -> Replied
-    requires { ⌜ Enough 514 (now scratch) (now out) × Fit (now line) recording ⌝ }
-    ensures { λ r. ⌜ Handled (served recording (now (line .entry))) r
+    requires { ⌜ Enough 514 (now scratch) (now out) × Fit (now line) record-line ⌝ }
+    ensures { λ r. ⌜ Handled (served record-line (now (line .entry))) r
         (now (scratch .entry)) (now (scratch .exit)) (now (out .entry)) (now (out .exit)) ⌝ }
 {
     let mut numbers = [0u16; 255];
-    let k = lines::numbers_of(line, &mut numbers);
-    match ranking::read_record(&numbers[0..k], scratch) {
-        Placed::At { n, position } => tell::tell_chain(out, n, position, &numbers[0..k]),
-        Placed::Refused(number) => tell::tell_refusal(out, number),
+    match lines::numbers_of(line, &mut numbers) {
+        Items::Read(k) => match ranking::read_record(&numbers[0..k], scratch) {
+            Placed::At { n, position } => tell::tell_chain(out, n, position, &numbers[0..k]),
+            Placed::Refused(number) => tell::tell_refusal(out, number),
+        },
+        Items::Refused(number) => serve_refusal(number, scratch, out),
     }
 }
 
 // 05: a word.
 pub fn serve_word(line: &[u8], scratch: &mut [u64], out: &mut [u8]) -> Replied
-    requires { ⌜ Enough 514 (now scratch) (now out) × Fit (now line) wording ⌝ }
-    ensures { λ r. ⌜ Handled (served wording (now (line .entry))) r
+    requires { ⌜ Enough 514 (now scratch) (now out) × Fit (now line) word-line ⌝ }
+    ensures { λ r. ⌜ Handled (served word-line (now (line .entry))) r
         (now (scratch .entry)) (now (scratch .exit)) (now (out .entry)) (now (out .exit)) ⌝ }
 {
     let mut letters = [0u8; 255];
-    let k = lines::letters_of(line, &mut letters);
-    let mut places = [0u16; 64];
-    let found = ranking::read_word(&letters[0..k], scratch, &mut places);
-    tell::tell_found(out, found, &places)
+    match lines::letters_of(line, &mut letters) {
+        Items::Read(k) => {
+            let mut places = [0u16; 64];
+            let found = ranking::read_word(&letters[0..k], scratch, &mut places);
+            tell::tell_found(out, found, &places)
+        }
+        Items::Refused(number) => serve_refusal(number, scratch, out),
+    }
 }
 
 // 06: the chain after a word's.
 pub fn serve_next(line: &[u8], scratch: &mut [u64], out: &mut [u8]) -> Replied
-    requires { ⌜ Enough 514 (now scratch) (now out) × Fit (now line) following ⌝ }
-    ensures { λ r. ⌜ Handled (served following (now (line .entry))) r
+    requires { ⌜ Enough 514 (now scratch) (now out) × Fit (now line) next-line ⌝ }
+    ensures { λ r. ⌜ Handled (served next-line (now (line .entry))) r
         (now (scratch .entry)) (now (scratch .exit)) (now (out .entry)) (now (out .exit)) ⌝ }
 {
     let mut letters = [0u8; 255];
-    let k = lines::letters_of(line, &mut letters);
-    let mut places = [0u16; 64];
-    let found = ranking::next_chain(&letters[0..k], scratch, &mut places);
-    tell::tell_found(out, found, &places)
+    match lines::letters_of(line, &mut letters) {
+        Items::Read(k) => {
+            let mut places = [0u16; 64];
+            let found = ranking::next_chain(&letters[0..k], scratch, &mut places);
+            tell::tell_found(out, found, &places)
+        }
+        Items::Refused(number) => serve_refusal(number, scratch, out),
+    }
 }
 
 // A fit line, by the byte of its kind.

@@ -41,7 +41,8 @@ pub fn tell_chain(out: &mut [u8], n: u64, position: u64, numbers: &[u16]) -> Rep
 // The same with the chain's price.
 pub fn tell_priced(out: &mut [u8], n: u64, position: u64, numbers: &[u16], price: u64) -> Replied
     requires { ⌜ (514 ≤ length (now out)) × (length (now numbers) ≤ 64) ⌝ }
-    ensures { λ r. ⌜ Told (servedWith (pricedDigits n position (now (numbers .entry)) price)) r (now (out .entry)) (now (out .exit)) ⌝ }
+    ensures { λ r. ⌜ Told (servedWith (pricedDigits n position (now (numbers .entry)) price)) r
+        (now (out .entry)) (now (out .exit)) ⌝ }
 {
     let k = put::put_chain(out, n, position, numbers);
     let end = put::put_price(out, k, price);

@@ -1,42 +1,46 @@
--- The kinds of lines and their lengths: document 01, 'Frames'. The one place that says which kinds there are, which byte stands for
--- each and how long a line of each must be.
+-- The kinds of lines and how a line of each is laid out: document 01, 'Frames'. The one place that says which kinds there are.
 -- Definitions only.
+use mathlib.Core.Bool.{true, false}
+use mathlib.Core.List.{List, [], _∷_}
 use mathlib.Core.Option.{Option, none, some}
-use Prim.Native.Nat.{ℕ, zero, suc, _+_, _*_}
+use Prim.Native.Nat.{ℕ}
+use lib.Dec.{eqb}
 
+-- A count, the best chain, the chain at a position, a burned record, a word, the chain next to a word's.
 pub data Kind : Type 0 where
-  counting choosing placing recording wording following : Kind
+  count-line best-line at-line record-line word-line next-line : Kind
 
--- The kind of a line by its first byte: 01 count, 02 best, 03 at a position, 04 burned record, 05 word, 06 next.
+-- How a line of a kind is laid out. Items are a record's part numbers or a word's letters. In a kind without items all bytes stand
+-- before them, and their width is 0.
+pub record Row : Type 0 where
+  -- The first byte of a line.
+  pub byte : ℕ
+  -- How many bytes stand before the items.
+  pub before : ℕ
+  -- The byte that holds the number of items.
+  pub countAt : ℕ
+  -- How many bytes an item has.
+  pub width : ℕ
+
+abbrev pub row : ℕ → ℕ → ℕ → ℕ → Row
+row byte before countAt width = record { byte = byte; before = before; countAt = countAt; width = width }
+
+unfoldable pub rowOf : Kind → Row
+rowOf count-line = row 1 9 0 0
+rowOf best-line = row 2 18 0 0
+rowOf at-line = row 3 17 0 0
+rowOf record-line = row 4 2 1 2
+rowOf word-line = row 5 2 1 1
+rowOf next-line = row 6 2 1 1
+
+unfoldable pub kinds : List Kind
+kinds = count-line ∷ best-line ∷ at-line ∷ record-line ∷ word-line ∷ next-line ∷ []
+
+-- The first of some kinds that has a byte.
+unfoldable pub kindAmong : List Kind → ℕ → Option Kind
+kindAmong [] b = none
+kindAmong (k ∷ ks) b = elim (eqb b (rowOf k .byte)) [ true ↦ some k | false ↦ kindAmong ks b ]
+
+-- The kind of a line by its first byte.
 unfoldable pub kindOf : ℕ → Option Kind
-kindOf zero = none
-kindOf (suc zero) = some counting
-kindOf (suc (suc zero)) = some choosing
-kindOf (suc (suc (suc zero))) = some placing
-kindOf (suc (suc (suc (suc zero)))) = some recording
-kindOf (suc (suc (suc (suc (suc zero))))) = some wording
-kindOf (suc (suc (suc (suc (suc (suc zero)))))) = some following
-kindOf (suc (suc (suc (suc (suc (suc (suc k))))))) = none
-
--- The byte of a kind.
-unfoldable pub byteOf : Kind → ℕ
-byteOf counting = 1
-byteOf choosing = 2
-byteOf placing = 3
-byteOf recording = 4
-byteOf wording = 5
-byteOf following = 6
-
--- How many bytes a line of a kind has; c is its second byte, the count of a record's parts or of a word's letters.
-unfoldable pub bytesIn : Kind → ℕ → ℕ
-bytesIn counting c = 9
-bytesIn choosing c = 18
-bytesIn placing c = 17
-bytesIn recording c = 2 + 2 * c
-bytesIn wording c = 2 + c
-bytesIn following c = 2 + c
-
--- The same, and 0 where there is no kind.
-unfoldable pub bytesOf : Option Kind → ℕ → ℕ
-bytesOf none c = 0
-bytesOf (some k) c = bytesIn k c
+kindOf b = kindAmong kinds b

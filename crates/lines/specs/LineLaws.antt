@@ -1,23 +1,25 @@
 -- Theory of lines.
 -- In order: one field; several fields; kinds and their bytes; lengths; which lines are refused, and which are fit; the answer for a
--- shape; a line's first 515 characters; the word and the record in a line.
+-- shape; a line's first 515 characters; reading the items of a line.
 use mathlib.Core.Path.{_≡_, refl, sym, ap, _∙_}
-use mathlib.Core.Bool.{Bool, true, false, _||_, true≢false, or-true}
+use mathlib.Core.Bool.{Bool, true, false, _&&_, _||_, true≢false, or-true, and-eq-true-iff}
 use mathlib.Core.List.{List, [], _∷_, _++_}
 use mathlib.Core.Option.{Option, none, some}
 use Prim.Native.Nat.{ℕ, zero, suc, _+_, _*_, _-_, _%_, _^_, _≤_, _<_}
 use native.Mathlib.Nat.{mul-suc, mul-zero, add-zero, add-assoc, add-comm}
 use native.Mathlib.Numerals.{add-one, add-two, add-three}
 use native.Mathlib.Omega.{arith}
-use borrow.Author.Tests.{eqb-true, eqb-false, eq-eqb, ne-eqb, ltb-true, ltb-false, lt-ltb, le-ltb, le-leb, lt-leb}
-use lib.Dec.{eqb, ltb}
+use borrow.Author.Tests.{eqb-true, eqb-false, eq-eqb, ne-eqb, ltb-true, ltb-false, lt-ltb, le-ltb, leb-true}
+use lib.Dec.{eqb, ltb, leb}
 use lib.ListN.{length, take, drop, getD, length-take, length-drop, drop-of-length-le}
 use lib.Seq.{take-all, take-nil, drop-cons}
 use Rattle.digits.specs.Digits.{valueOr0, allDigits, numberOf, readFrom}
 use Rattle.digits.specs.DigitLaws.{number-below, number-fits}
-use Rattle.lines.specs.Kinds.{Kind, counting, choosing, placing, recording, wording, following, kindOf, byteOf, bytesIn}
-use Rattle.lines.specs.Kinds.{bytesOf}
-use Rattle.lines.specs.Lines.{field, fields, Shape, unfit, fit, badLength, shapeOfKind, shapeOf, shapeCode, fieldsIn, written}
+use Rattle.lines.specs.Kinds.{Kind, count-line, best-line, at-line, record-line, word-line, next-line, Row, rowOf, kinds}
+use Rattle.lines.specs.Kinds.{kindAmong, kindOf}
+use Rattle.lines.specs.Lines.{field, fields, bytesIn, itemsIn, Shape, unfit, fit, badLength, Proper, shapeOfKind, shapeOf}
+use Rattle.lines.specs.Lines.{shapeCode}
+use Rattle.lines.specs.Lines.{Fit, unread, read, itemsOfKind, readItems}
 use Rattle.lines.specs.declared.Shape.the-variants as answer
 
 -- ---- one field
@@ -84,53 +86,72 @@ fields-suc line at width (suc k) =
 
 -- ---- kinds and their bytes
 
-pub kind-byte : (k : Kind) → kindOf (byteOf k) ≡ some k
-unfolding kindOf byteOf
-kind-byte counting = refl
-kind-byte choosing = refl
-kind-byte placing = refl
-kind-byte recording = refl
-kind-byte wording = refl
-kind-byte following = refl
+-- Every kind is found by its byte. The one law that goes kind by kind.
+pub kind-byte : (k : Kind) → kindOf (rowOf k .byte) ≡ some k
+unfolding kindOf kindAmong kinds rowOf
+kind-byte count-line = refl
+kind-byte best-line = refl
+kind-byte at-line = refl
+kind-byte record-line = refl
+kind-byte word-line = refl
+kind-byte next-line = refl
 
--- The byte of the kind that b stands for, and b where it stands for none: b again.
-byteOr : ℕ → Option Kind → ℕ
-byteOr b none = b
-byteOr b (some k) = byteOf k
+-- A test passes for each of some kinds.
+unfoldable pub passes : (Kind → Bool) → List Kind → Bool
+passes p [] = true
+passes p (k ∷ ks) = p k && passes p ks
 
-byteOr-kind : (b : ℕ) → byteOr b (kindOf b) ≡ b
-unfolding kindOf byteOf byteOr
-byteOr-kind zero = refl
-byteOr-kind (suc zero) = refl
-byteOr-kind (suc (suc zero)) = refl
-byteOr-kind (suc (suc (suc zero))) = refl
-byteOr-kind (suc (suc (suc (suc zero)))) = refl
-byteOr-kind (suc (suc (suc (suc (suc zero))))) = refl
-byteOr-kind (suc (suc (suc (suc (suc (suc zero)))))) = refl
-byteOr-kind (suc (suc (suc (suc (suc (suc (suc b))))))) = refl
+-- The kind that is found has the byte, and passes each test that all pass.
+found : (p : Kind → Bool) (ks : List Kind) (b : ℕ) (k : Kind) → kindAmong ks b ≡ some k
+    → (rowOf k .byte ≡ b) × (passes p ks ≡ true → p k ≡ true)
+unfolding kindAmong passes
+found p [] b k e = let z : _≡_ {A = ℕ} 0 1 = cc in absurd (omega arith)
+found p (j ∷ ks) b k e = go (found p ks b k) (eqb b (rowOf j .byte)) refl
+  where
+    go : (kindAmong ks b ≡ some k → (rowOf k .byte ≡ b) × (passes p ks ≡ true → p k ≡ true))
+        → (t : Bool) → eqb b (rowOf j .byte) ≡ t → (rowOf k .byte ≡ b) × (p j && passes p ks ≡ true → p k ≡ true)
+    go later true h =
+        let same : j ≡ k = cc (rw (h, kindAmong) at e) in
+        rw (← same) (sym (eqb-true b (rowOf j .byte) h), λ q. and-eq-true-iff (p j) (passes p ks) .0 q .0)
+    go later false h =
+        let r = later (rw (h, kindAmong) at e) in
+        (r .0, λ q. r .1 (and-eq-true-iff (p j) (passes p ks) .0 q .1))
 
-pub byte-kind : (b : ℕ) (k : Kind) → kindOf b ≡ some k → byteOf k ≡ b
-unfolding byteOr
-byte-kind b k e = ap (byteOr b) (sym e) ∙ byteOr-kind b
+pub byte-kind : (b : ℕ) (k : Kind) → kindOf b ≡ some k → rowOf k .byte ≡ b
+unfolding kindOf
+byte-kind b k e = found (λ (j : Kind). true) kinds b k e .0
 
--- Every kind has bytes.
-pub no-bytes : (o : Option Kind) (c : ℕ) → bytesOf o c ≡ 0 → o ≡ none
-unfolding bytesOf bytesIn
-no-bytes none c e = refl
-no-bytes (some counting) c e = absurd (omega arith)
-no-bytes (some choosing) c e = absurd (omega arith)
-no-bytes (some placing) c e = absurd (omega arith)
-no-bytes (some recording) c e = absurd (omega arith)
-no-bytes (some wording) c e = absurd (omega arith)
-no-bytes (some following) c e = absurd (omega arith)
+-- So a test over the list shows something of every kind.
+pub each-kind : (p : Kind → Bool) → passes p kinds ≡ true → (k : Kind) → p k ≡ true
+unfolding kindOf
+each-kind p t k = found p kinds (rowOf k .byte) k (kind-byte k) .1 t
+
+-- The numbers in a row are small, and some byte stands before the items.
+pub record Small (r : Row) : Type 0 where
+  pub byte-fits : r .byte < 256
+  pub some-before : 0 < r .before
+  pub few-before : r .before < 256
+  pub narrow : r .width ≤ 2
+
+isSmall : Kind → Bool
+isSmall k = (ltb (rowOf k .byte) 256 && ltb 0 (rowOf k .before)) && (ltb (rowOf k .before) 256 && leb (rowOf k .width) 2)
+
+pub row-small : (k : Kind) → Small (rowOf k)
+unfolding isSmall kinds rowOf passes
+row-small k =
+    let t = each-kind isSmall refl k in
+    let h = and-eq-true-iff (ltb (rowOf k .byte) 256 && ltb 0 (rowOf k .before))
+    (ltb (rowOf k .before) 256 && leb (rowOf k .width) 2) .0 t in
+    let f = and-eq-true-iff (ltb (rowOf k .byte) 256) (ltb 0 (rowOf k .before)) .0 (h .0) in
+    let g = and-eq-true-iff (ltb (rowOf k .before) 256) (leb (rowOf k .width) 2) .0 (h .1) in
+    record {
+      byte-fits = ltb-true _ _ (f .0);
+      some-before = ltb-true _ _ (f .1);
+      few-before = ltb-true _ _ (g .0);
+      narrow = leb-true _ _ (g .1);
+    }
 
 -- ---- lengths
-
--- A length that is not refused in general: some characters, an even number, at most 514.
-pub record Proper (n : ℕ) : Type 0 where
-  pub some-there : 0 < n
-  pub even : n % 2 ≡ 0
-  pub most : n ≤ 514
 
 pub bad-none : (n : ℕ) → n ≡ 0 → badLength n ≡ true
 unfolding badLength
@@ -184,20 +205,13 @@ unfolding shapeOfKind
 unfit-kind line o e = rw e
 
 module _ (line : List ℕ) (o : Option Kind) (k : Kind) (e : o ≡ some k) where
-  pub unfit-kind-length : (length line ≡ 2 * bytesIn k (field line 1 1) → ⊥) → shapeOfKind line o ≡ unfit 2
+  pub unfit-kind-length : (length line ≡ 2 * bytesIn k line → ⊥) → shapeOfKind line o ≡ unfit 2
   unfolding shapeOfKind
-  unfit-kind-length h = rw (e, ne-eqb (length line) (2 * bytesIn k (field line 1 1)) h)
+  unfit-kind-length h = rw (e, ne-eqb (length line) (2 * bytesIn k line) h)
 
-  pub fit-kind-length : length line ≡ 2 * bytesIn k (field line 1 1) → shapeOfKind line o ≡ fit k
+  pub fit-kind-length : length line ≡ 2 * bytesIn k line → shapeOfKind line o ≡ fit k
   unfolding shapeOfKind
-  fit-kind-length h = rw (e, eq-eqb (length line) (2 * bytesIn k (field line 1 1)) h)
-
--- What is known of a line that is fit.
-pub record Fit (line : List ℕ) (k : Kind) : Type 0 where
-  pub proper : Proper (length line)
-  pub digits : allDigits line ≡ true
-  pub kind : kindOf (field line 0 1) ≡ some k
-  pub long : length line ≡ 2 * bytesIn k (field line 1 1)
+  fit-kind-length h = rw (e, eq-eqb (length line) (2 * bytesIn k line) h)
 
 pub line-fit : (line : List ℕ) (k : Kind) → Fit line k → shapeOf line ≡ fit k
 line-fit line k f =
@@ -215,11 +229,11 @@ fit-line line k e = go (badLength (length line)) refl
 
     of-kind : Proper (length line) → allDigits line ≡ true → (o : Option Kind) → kindOf first ≡ o → Fit line k
     of-kind p d none o = absurd (not-unfit 4 (shape-kind line p d ∙ unfit-kind line (kindOf first) o))
-    of-kind p d (some j) o = by-length (eqb (length line) (2 * bytesIn j (field line 1 1))) refl
+    of-kind p d (some j) o = by-length (eqb (length line) (2 * bytesIn j line)) refl
       where
-        by-length : (b : Bool) → eqb (length line) (2 * bytesIn j (field line 1 1)) ≡ b → Fit line k
+        by-length : (b : Bool) → eqb (length line) (2 * bytesIn j line) ≡ b → Fit line k
         by-length true h =
-            let l : length line ≡ 2 * bytesIn j (field line 1 1) = eqb-true _ _ h in
+            let l : length line ≡ 2 * bytesIn j line = eqb-true _ _ h in
             let f : fit j ≡ fit k = sym (line-fit line j (record { proper = p; digits = d; kind = o; long = l })) ∙ e in
             let same : j ≡ k = cc in
             rw (← same) (record { proper = p; digits = d; kind = o; long = l })
@@ -245,7 +259,7 @@ pub kind-shape : (s : Shape) (b : ℕ) (k : Kind) → shapeCode s ≡ answer.Kin
 unfolding shapeCode
 kind-shape (unfit q) b k e h = let z : _≡_ {A = ℕ} 0 1 = cc in absurd (omega arith)
 kind-shape (fit j) b k e h =
-    let p : byteOf j ≡ b = cc in
+    let p : rowOf j .byte ≡ b = cc in
     let o : some j ≡ some k = sym (kind-byte j) ∙ ap kindOf p ∙ h in
     cc
 
@@ -271,25 +285,40 @@ reply-515 {X} reply same line = ap (λ (s : Shape). reply s line) (shape-515 lin
     go (unfit r) e = same r line (take 515 line)
     go (fit k) e = ap (reply (fit k)) (sym (take-all 515 line (omega (arith, fit-line line k e .proper .most))))
 
--- ---- the word and the record in a line
+-- ---- reading the items of a line
 
-module _ (width : ℕ) (line entry : List ℕ) where
-  pub written-all : 255 ≤ length entry → 2 * (2 + width * field line 1 1) ≤ length line
-      → written width line entry ≡ fieldsIn width line
-  unfolding written
-  written-all h l = rw (le-leb 255 (length entry), le-leb (2 * (2 + width * field line 1 1)) (length line), written)
+module _ (width : ℕ) (line : List ℕ) (places : ℕ) where
+  pub items-little : places < 255 → readItems width line places ≡ unread 1
+  unfolding readItems
+  items-little h = rw (lt-ltb places 255)
 
-  -- Too few places, and too short a line.
-  pub written-little : length entry < 255 → written width line entry ≡ []
-  unfolding written
-  written-little h = rw (lt-leb 255 (length entry), written)
+  module _ (room : 255 ≤ places) where
+    pub items-kind : readItems width line places ≡ itemsOfKind width line (kindOf (field line 0 1))
+    unfolding readItems
+    items-kind = rw (le-ltb places 255)
 
-  pub written-short : 255 ≤ length entry → length line < 2 * (2 + width * field line 1 1) → written width line entry ≡ []
-  unfolding written
-  written-short h l = rw (le-leb 255 (length entry), lt-leb (2 * (2 + width * field line 1 1)) (length line), written)
+-- A line of no kind, of a kind with items of another width, and of a kind with such items.
+module _ (width : ℕ) (line : List ℕ) (o : Option Kind) where
+  pub items-none : o ≡ none → itemsOfKind width line o ≡ unread 4
+  unfolding itemsOfKind
+  items-none e = rw e
 
--- Of a fit line that has as many bytes as its count asks for, all is written.
-pub written-fit : (width : ℕ) (line entry : List ℕ) (k : Kind) → Fit line k
-    → bytesIn k (field line 1 1) ≡ 2 + width * field line 1 1
-    → 255 ≤ length entry → written width line entry ≡ fieldsIn width line
-written-fit width line entry k f e h = written-all width line entry h (omega (arith, f .long))
+  module _ (k : Kind) (e : o ≡ some k) where
+    pub items-other : (rowOf k .width ≡ width → ⊥) → itemsOfKind width line o ≡ unread 4
+    unfolding itemsOfKind
+    items-other h = rw (e, ne-eqb (rowOf k .width) width h)
+
+    pub items-short : rowOf k .width ≡ width → length line < 2 * bytesIn k line → itemsOfKind width line o ≡ unread 2
+    unfolding itemsOfKind
+    items-short w h = rw (e, eq-eqb (rowOf k .width) width w, lt-ltb (length line) (2 * bytesIn k line))
+
+    pub items-there : rowOf k .width ≡ width → 2 * bytesIn k line ≤ length line → itemsOfKind width line o ≡ read (itemsIn k line)
+    unfolding itemsOfKind
+    items-there w h = rw (e, eq-eqb (rowOf k .width) width w, le-ltb (length line) (2 * bytesIn k line))
+
+-- The items of a fit line are all read.
+pub items-fit : (line : List ℕ) (places : ℕ) (k : Kind) → Fit line k → 255 ≤ places
+    → readItems (rowOf k .width) line places ≡ read (itemsIn k line)
+items-fit line places k f h =
+    items-kind (rowOf k .width) line places h
+    ∙ items-there (rowOf k .width) line (kindOf (field line 0 1)) k (f .kind) refl (omega (arith, f .long))

@@ -1,15 +1,37 @@
 // A line of hexadecimal before it is served: its fields, its kind, and whether it is refused by its shape. Document 01, 'Frames'
 // and 'What a refused line or call gets'. A line is its characters, without the byte 10. Every function here takes any input.
 ghost use mathlib.Core.Path.{_≡_};
-ghost use Prim.Native.Nat.{_+_, _*_, _%_, _^_, _<_};
-ghost use lib.ListN.{length};
+ghost use mathlib.Core.List.{_++_};
+ghost use Prim.Native.Nat.{_+_, _*_, _%_, _^_, _≤_, _<_};
+ghost use lib.ListN.{length, drop};
 ghost use Rattle.digits.specs.Digits.{valueOr0};
-ghost use Rattle.lines.specs.Kinds.{kindOf, bytesOf};
-ghost use Rattle.lines.specs.Lines.{field, shapeOf, shapeCode, written, atStart};
+ghost use Rattle.lines.specs.Kinds.{kindOf};
+ghost use Rattle.lines.specs.Lines.{field, fields, shapeOf, shapeCode, readItems, itemsCode, itemsLeft};
+ghost use Rattle.lines.specs.Calls.{rowWith, rowFor, spanItems, InLine};
 
 // What a line is by its shape: of a kind, given by its byte, or refused, by the number of the refusal.
 pub enum Shape {
     Kind(u8),
+    Refused(u8),
+}
+
+// What reading the items of a line answers: how many there are, or the number of the refusal.
+pub enum Items {
+    Read(usize),
+    Refused(u8),
+}
+
+// How a line of a kind is laid out: how many bytes stand before its items, which byte holds their number, and how many bytes an
+// item has. No byte stands before anything where there is no such kind.
+struct Row {
+    before: usize,
+    at: usize,
+    width: usize,
+}
+
+// Where the items of a line stand: the first of them at a byte, and their number; or the number of the refusal.
+enum Span {
+    At { from: usize, count: usize },
     Refused(u8),
 }
 
@@ -50,19 +72,24 @@ fn wide(x: u8) -> usize
     x as usize
 }
 
-// How many bytes a line of a kind has, and 0 where there is no such kind; `count` is the line's second byte. The one place of the
-// code that says which kinds there are.
-fn bytes_in(kind: u8, count: u8) -> usize
-    ensures { λ r. ⌜ r ≡ bytesOf (kindOf kind) count ⌝ }
+fn row_with(before: usize, at: usize, width: usize) -> Row
+    ensures { λ r. ⌜ r ≡ rowWith before at width ⌝ }
+{
+    Row { before, at, width }
+}
+
+// The row of a kind by its byte. The one place of the code that says which kinds there are.
+fn row_of(kind: u8) -> Row
+    ensures { λ r. ⌜ r ≡ rowFor (kindOf kind) ⌝ }
 {
     match kind {
-        1 => 9,
-        2 => 18,
-        3 => 17,
-        4 => 2 + 2 * wide(count),
-        5 => 2 + wide(count),
-        6 => 2 + wide(count),
-        _ => 0,
+        1 => row_with(9, 0, 0),
+        2 => row_with(18, 0, 0),
+        3 => row_with(17, 0, 0),
+        4 => row_with(2, 1, 2),
+        5 => row_with(2, 1, 1),
+        6 => row_with(2, 1, 1),
+        _ => row_with(0, 0, 0),
     }
 }
 
@@ -84,11 +111,12 @@ pub fn shape_of(line: &[u8]) -> Shape
         return Shape::Refused(3);
     }
     let kind = byte_of(line, 0);
-    let bytes = bytes_in(kind, byte_of(line, 1));
-    if bytes == 0 {
+    let row = row_of(kind);
+    if row.before == 0 {
         return Shape::Refused(4);
     }
-    if n / 2 != bytes {
+    let count = wide(byte_of(line, row.at));
+    if n / 2 != row.before + row.width * count {
         return Shape::Refused(2);
     }
     Shape::Kind(kind)
@@ -114,45 +142,83 @@ fn pair_from(a: u8, b: u8, c: u8, d: u8) -> u16
     (4096 * digit(a) + 256 * digit(b) + 16 * digit(c) + digit(d)) as u16
 }
 
-// The letters of the word in a line: as many as its second byte says, one byte each, at the start of `letters`. How many there are
-// is told. Where fewer than 255 places are lent, or the line is shorter than its count says, 0 is told and nothing is written.
-pub fn letters_of(line: &[u8], letters: &mut [u8]) -> usize
-    ensures { λ r. ⌜ r ≡ length (written 1 (now (line .entry)) (now (letters .entry))) ⌝ }
-    ensures { λ _. ⌜ now (letters .exit) ≡ atStart (written 1 (now (line .entry)) (now (letters .entry))) (now (letters .entry)) ⌝ }
+// Where the items of `width` bytes stand in a line, and how many there are, where they are read into so many places.
+fn span_of(line: &[u8], width: usize, places: usize) -> Span
+    requires { ⌜ 0 < width ⌝ }
+    ensures { λ r. ⌜ spanItems width (now (line .entry)) r ≡ readItems width (now (line .entry)) places ⌝ }
+    ensures { λ r. ⌜ InLine width (now (line .entry)) places r ⌝ }
 {
-    if letters.len() < 255 {
-        return 0;
+    if places < 255 {
+        return Span::Refused(1);
     }
-    let count = wide(byte_of(line, 1));
-    if line.len() < 4 + 2 * count {
-        return 0;
+    let row = row_of(byte_of(line, 0));
+    if row.width != width {
+        return Span::Refused(4);
     }
+    let count = wide(byte_of(line, row.at));
+    if line.len() / 2 < row.before + width * count {
+        return Span::Refused(2);
+    }
+    Span::At {
+        from: row.before,
+        count,
+    }
+}
+
+// Values of one byte each, `count` of them from byte `from` on, at the start of `letters`.
+fn read_bytes(line: &[u8], from: usize, count: usize, letters: &mut [u8])
+    requires { ⌜ (2 * (from + 1 * count) ≤ length (now line)) × (count ≤ length (now letters)) ⌝ }
+    ensures { λ _. ⌜ now (letters .exit) ≡ fields (now (line .entry)) from 1 count ++ drop count (now (letters .entry)) ⌝ }
+{
     let mut i = 0;
     while i < count {
-        let j = 4 + 2 * i;
+        let j = 2 * (from + i);
         letters[i] = byte_from(line[j], line[j + 1]);
         i += 1;
     }
-    count
 }
 
-// The part numbers of the record in a line, two bytes each, in the same way.
-pub fn numbers_of(line: &[u8], numbers: &mut [u16]) -> usize
-    ensures { λ r. ⌜ r ≡ length (written 2 (now (line .entry)) (now (numbers .entry))) ⌝ }
-    ensures { λ _. ⌜ now (numbers .exit) ≡ atStart (written 2 (now (line .entry)) (now (numbers .entry))) (now (numbers .entry)) ⌝ }
+// The same with values of two bytes.
+fn read_pairs(line: &[u8], from: usize, count: usize, numbers: &mut [u16])
+    requires { ⌜ (2 * (from + 2 * count) ≤ length (now line)) × (count ≤ length (now numbers)) ⌝ }
+    ensures { λ _. ⌜ now (numbers .exit) ≡ fields (now (line .entry)) from 2 count ++ drop count (now (numbers .entry)) ⌝ }
 {
-    if numbers.len() < 255 {
-        return 0;
-    }
-    let count = wide(byte_of(line, 1));
-    if line.len() < 4 + 4 * count {
-        return 0;
-    }
     let mut i = 0;
     while i < count {
-        let j = 4 + 4 * i;
+        let j = 2 * (from + 2 * i);
         numbers[i] = pair_from(line[j], line[j + 1], line[j + 2], line[j + 3]);
         i += 1;
     }
-    count
+}
+
+// The letters of the word in a line, one byte each, at the start of `letters`; how many there are is told. Refuses with 1 where
+// fewer than 255 places are lent, with 4 where the line is of no kind that has letters, and with 2 where it is shorter than its
+// kind; then nothing is written.
+pub fn letters_of(line: &[u8], letters: &mut [u8]) -> Items
+    ensures { λ r. ⌜ r ≡ itemsCode (readItems 1 (now (line .entry)) (length (now (letters .entry)))) ⌝ }
+    ensures { λ _. ⌜ now (letters .exit)
+        ≡ itemsLeft (readItems 1 (now (line .entry)) (length (now (letters .entry)))) (now (letters .entry)) ⌝ }
+{
+    match span_of(line, 1, letters.len()) {
+        Span::At { from, count } => {
+            read_bytes(line, from, count, letters);
+            Items::Read(count)
+        }
+        Span::Refused(number) => Items::Refused(number),
+    }
+}
+
+// The part numbers of the record in a line, two bytes each, in the same way.
+pub fn numbers_of(line: &[u8], numbers: &mut [u16]) -> Items
+    ensures { λ r. ⌜ r ≡ itemsCode (readItems 2 (now (line .entry)) (length (now (numbers .entry)))) ⌝ }
+    ensures { λ _. ⌜ now (numbers .exit)
+        ≡ itemsLeft (readItems 2 (now (line .entry)) (length (now (numbers .entry)))) (now (numbers .entry)) ⌝ }
+{
+    match span_of(line, 2, numbers.len()) {
+        Span::At { from, count } => {
+            read_pairs(line, from, count, numbers);
+            Items::Read(count)
+        }
+        Span::Refused(number) => Items::Refused(number),
+    }
 }

@@ -20,7 +20,8 @@ abbrev μ-loop : tie.MeasureT-loop
 μ-loop line i₀ i = length line - i
 
 -- The answer once the character at i is looked at.
-next : (s : List ℕ) (i : ℕ) (b : Bool) → i < length s → b ≡ isDigit (getD s i 0) → allDigits s ≡ allDigits (drop i s) → allDigits s ≡ b && allDigits (drop (i + 1) s)
+next : (s : List ℕ) (i : ℕ) (b : Bool) → i < length s → b ≡ isDigit (getD s i 0) → allDigits s ≡ allDigits (drop i s)
+    → allDigits s ≡ b && allDigits (drop (i + 1) s)
 next s i b h d e = e ∙ rw (every-from isDigit s i h, d)
 
 returns : tie.Need-returns Inv-loop μ-loop

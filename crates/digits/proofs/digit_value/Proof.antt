@@ -10,7 +10,9 @@ use Rattle.digits.proofs.digit_value.Statement.{statement}
 use Rattle.digits.proofs.digit_value.Tie as tie
 
 -- What the answer 255 for none tells of the answer 0 for none.
-either : (c : ℕ) → (Option·getD (digitValue c) 255 < 16 → Option·getD (digitValue c) 255 ≡ valueOr0 c) × (16 ≤ Option·getD (digitValue c) 255 → 0 ≡ valueOr0 c)
+either : (c : ℕ)
+    → (Option·getD (digitValue c) 255 < 16 → Option·getD (digitValue c) 255 ≡ valueOr0 c)
+    × (16 ≤ Option·getD (digitValue c) 255 → 0 ≡ valueOr0 c)
 unfolding valueOr0
 either c =
     by-value

@@ -20,7 +20,8 @@ below : (d c : ℕ) → d ≡ valueOr0 c → d < 16
 below d c e = omega (arith, value-below c)
 
 -- One character more: it is enough that the next number m fits, and agrees with 16 n + d.
-next : (s : List ℕ) (n m i d : ℕ) → i < length s → d ≡ valueOr0 (getD s i 0) → (d < 16 → (m < 2 ^ 64) × (m % 2 ^ 64 ≡ (16 * n + d) % 2 ^ 64))
+next : (s : List ℕ) (n m i d : ℕ) → i < length s → d ≡ valueOr0 (getD s i 0)
+    → (d < 16 → (m < 2 ^ 64) × (m % 2 ^ 64 ≡ (16 * n + d) % 2 ^ 64))
     → Reads s n i → Reads s m (i + 1)
 next s n m i d h e agrees r =
     let a : (m < 2 ^ 64) × (m % 2 ^ 64 ≡ (16 * n + d) % 2 ^ 64) = agrees (below d (getD s i 0) e) in

@@ -20,12 +20,14 @@ use Rattle.frames.proofs.reply.Tie as tie
 
 module _ (line s out : List ℕ) where
   refused-1 : tooLittle 514 s out ≡ true
-      → (replied.Refused 1 ≡ answerTo (tooLittle 514 s out) line) × ((out ≡ outLeft (tooLittle 514 s out) line out) × (s ≡ scratchLeft (tooLittle 514 s out) s))
+      → (replied.Refused 1 ≡ answerTo (tooLittle 514 s out) line)
+      × ((out ≡ outLeft (tooLittle 514 s out) line out) × (s ≡ scratchLeft (tooLittle 514 s out) s))
   unfolding answerTo repliedOf outLeft scratchLeft
   refused-1 e = rw e (refl, (refl, refl))
 
   answered : (r : Replied) (s′ out′ : List ℕ) → Enough 514 s out → Handled (replyTo line) r s s′ out out′
-      → (r ≡ answerTo (tooLittle 514 s out) line) × ((out′ ≡ outLeft (tooLittle 514 s out) line out) × (s′ ≡ scratchLeft (tooLittle 514 s out) s))
+      → (r ≡ answerTo (tooLittle 514 s out) line)
+      × ((out′ ≡ outLeft (tooLittle 514 s out) line out) × (s′ ≡ scratchLeft (tooLittle 514 s out) s))
   unfolding answerTo outLeft replyOf scratchLeft
   answered r s′ out′ l h = rw (enough 514 s out l) (h .told .answer, (h .told .digits, h .zeroed))
 
@@ -54,7 +56,8 @@ returns-3 c =
     let k = c .before .before .before .before in
     let b = k .before .before .before .before .before .before .before in
     let s = b .before .before .before .before .before in
-    answered (s .args .line .now) _ _ _ _ _ (record { numbers = b .before .if1 .left; room = b .if2 .left }) (k .serve-kind .ensures)
+    answered (s .args .line .now) _ _ _ _ _ (record { numbers = b .before .if1 .left; room = b .if2 .left })
+    (k .serve-kind .ensures)
 
 returns-4 : tie.Need-returns-4
 returns-4 c =

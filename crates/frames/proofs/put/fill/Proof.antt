@@ -5,7 +5,7 @@ use Prim.Native.Nat.{ℕ, _-_}
 use native.Mathlib.Omega.{arith}
 use borrow.Author.Needs.{needs}
 use borrow.Rule.Slice.PartMut.{putMid}
-use Rattle.frames.specs.Put.{zeros-part}
+use Rattle.frames.specs.PutLaws.{zeros-part}
 use Rattle.frames.proofs.put.fill.Statement.{statement}
 use Rattle.frames.proofs.put.fill.Tie as tie
 

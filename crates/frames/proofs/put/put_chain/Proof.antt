@@ -1,26 +1,29 @@
--- `put_chain` leaves the numbers right after the head, which has 36 digits.
-use mathlib.Core.Path.{refl}
+-- `put_chain` leaves the numbers right after the head.
+use mathlib.Core.Path.{refl, sym}
 use native.Mathlib.Omega.{arith}
 use borrow.Author.Needs.{needs}
-use Rattle.frames.specs.Put.{at-start, one-more}
-use Rattle.frames.specs.ReplyDigits.{chainDigits, length-head}
+use Rattle.frames.specs.PutLaws.{at-start, one-more, from-start}
+use Rattle.frames.specs.ReplyDigits.{chainDigits}
+use Rattle.frames.specs.ReplyDigitLaws.{length-head}
 use Rattle.frames.proofs.put.put_chain.Statement.{statement}
 use Rattle.frames.proofs.put.put_chain.Tie as tie
+
+put-numbers-requires : tie.Need-put-numbers-requires
+put-numbers-requires c κs =
+    let h = c .before .before .before in
+    let a = h .before .before .before .before .args in
+    omega (arith, length-head (a .n) (a .position) (a .numbers .now))
 
 returns : tie.Need-returns
 unfolding chainDigits
 returns c =
-    let out = c .before .before .before .before .before .before .before .before .before .before .args .out .now in
-    let head = at-start 36 _ out _ (length-head _ _ _) (c .before .before .before .before .before .before .put-head .ensures) in
-    (refl, one-more 0 36 _ _ _ out _ _ head (omega arith) (c .before .before .put-numbers .ensures) refl .list)
+    let p = c .before .before in
+    let h = p .before .before .before .before in
+    let a = h .before .before .before .before .args in
+    let out = a .out .now in
+    let head = at-start _ _ out _ (sym (h .put-head .ensures .0)) (h .put-head .ensures .1) in
+    let room = length-head (a .n) (a .position) (a .numbers .now) in
+    from-start _ _ _ _ (one-more 0 _ _ _ _ out _ _ head (omega arith) (p .put-numbers .ensures .1) (p .put-numbers .ensures .0))
 
 pub put-chain-spec : {M : Type 1} → statement M
-put-chain-spec =
-    tie.close
-    (tie.spec
-    (λ c κs. search needs)
-    (λ c κs. search needs)
-    (λ c. search needs)
-    (λ c. search needs)
-    (λ c. search needs)
-    returns)
+put-chain-spec = tie.close (tie.spec (λ c κs. search needs) put-numbers-requires (λ c. search needs) returns)

@@ -1,9 +1,7 @@
 -- `put_count` leaves the digits of the two numbers one after the other.
-use mathlib.Core.Path.{refl}
 use native.Mathlib.Omega.{arith}
 use borrow.Author.Needs.{needs}
-use Rattle.digits.specs.DigitLaws.{length-digits}
-use Rattle.frames.specs.Put.{at-start, more-digits}
+use Rattle.frames.specs.PutLaws.{first-digits, more-digits, from-start}
 use Rattle.frames.specs.ReplyDigits.{countDigits}
 use Rattle.frames.proofs.put.put_count.Statement.{statement}
 use Rattle.frames.proofs.put.put_count.Tie as tie
@@ -11,9 +9,12 @@ use Rattle.frames.proofs.put.put_count.Tie as tie
 returns : tie.Need-returns
 unfolding countDigits
 returns c =
-    let out = c .before .before .before .before .before .before .before .before .before .args .out .now in
-    let s₁ = at-start 2 _ out _ (length-digits 2 0) (c .before .before .before .before .before .before .put-at .ensures) in
-    (refl, more-digits 0 2 16 _ _ out _ _ s₁ (omega arith) (c .before .before .put-at2 .ensures) .list)
+    let p₂ = c .before .before in
+    let p₁ = p₂ .before .before .before .before in
+    let out = p₁ .before .before .before .args .out .now in
+    let s₁ = first-digits 2 0 _ out _ (p₁ .put-at .ensures .0) (p₁ .put-at .ensures .1) in
+    let s₂ = more-digits 0 _ 16 _ _ _ out _ _ s₁ (omega arith) (p₂ .put-at2 .ensures .0) (p₂ .put-at2 .ensures .1) in
+    from-start _ _ _ _ s₂
 
 pub put-count-spec : {M : Type 1} → statement M
 put-count-spec =

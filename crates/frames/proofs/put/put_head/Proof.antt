@@ -1,8 +1,7 @@
 -- `put_head` leaves the digits of the four numbers one after the other.
 use native.Mathlib.Omega.{arith}
 use borrow.Author.Needs.{needs}
-use Rattle.digits.specs.DigitLaws.{length-digits}
-use Rattle.frames.specs.Put.{at-start, more-digits}
+use Rattle.frames.specs.PutLaws.{first-digits, more-digits, from-start}
 use Rattle.frames.specs.ReplyDigits.{headDigits}
 use Rattle.frames.proofs.put.put_head.Statement.{statement}
 use Rattle.frames.proofs.put.put_head.Tie as tie
@@ -10,14 +9,16 @@ use Rattle.frames.proofs.put.put_head.Tie as tie
 returns : tie.Need-returns
 unfolding headDigits
 returns c =
-    let c₃ = c .before .before .before .before in
-    let c₂ = c₃ .before .before .before .before in
-    let c₁ = c₂ .before .before .before .before in
-    let out = c₁ .before .before .before .before .before .args .out .now in
-    let s₁ = at-start 2 _ out _ (length-digits 2 0) (c₁ .before .before .put-at .ensures) in
-    let s₂ = more-digits 0 2 16 _ _ out _ _ s₁ (omega arith) (c₂ .before .before .put-at2 .ensures) in
-    let s₃ = more-digits 0 18 16 _ _ out _ _ s₂ (omega arith) (c₃ .before .before .put-at3 .ensures) in
-    more-digits 0 34 2 _ _ out _ _ s₃ (omega arith) (c .before .before .put-at4 .ensures) .list
+    let p₄ = c .before .before in
+    let p₃ = p₄ .before .before .before .before in
+    let p₂ = p₃ .before .before .before .before in
+    let p₁ = p₂ .before .before .before .before in
+    let out = p₁ .before .before .before .before .args .out .now in
+    let s₁ = first-digits 2 0 _ out _ (p₁ .put-at .ensures .0) (p₁ .put-at .ensures .1) in
+    let s₂ = more-digits 0 _ 16 _ _ _ out _ _ s₁ (omega arith) (p₂ .put-at2 .ensures .0) (p₂ .put-at2 .ensures .1) in
+    let s₃ = more-digits 0 _ 16 _ _ _ out _ _ s₂ (omega arith) (p₃ .put-at3 .ensures .0) (p₃ .put-at3 .ensures .1) in
+    let s₄ = more-digits 0 _ 2 _ _ _ out _ _ s₃ (omega arith) (p₄ .put-at4 .ensures .0) (p₄ .put-at4 .ensures .1) in
+    from-start _ _ _ _ s₄
 
 pub put-head-spec : {M : Type 1} → statement M
 put-head-spec =

@@ -8,42 +8,53 @@ use borrow.Author.Needs.{needs}
 use lib.ListN.{length, getD, take}
 use lib.Seq.{take-all}
 use Rattle.digits.specs.Digits.{digitsOf}
-use Rattle.frames.specs.Put.{putAt, Stands, none-yet, more-digits}
-use Rattle.frames.specs.ReplyDigits.{valuesDigits, numbersDigits, numbers-more}
+use Rattle.frames.specs.Put.{putAt}
+use Rattle.frames.specs.PutLaws.{Stands, none-yet, more-digits}
+use Rattle.frames.specs.ReplyDigits.{valuesDigits, numbersDigits}
+use Rattle.frames.specs.ReplyDigitLaws.{numbers-more}
 use Rattle.frames.proofs.put.put_numbers.Statement.{statement}
 use Rattle.frames.proofs.put.put_numbers.Tie as tie
 
--- The first i numbers stand.
-First : List ℕ → List ℕ → List ℕ → ℕ → Type 0
-First numbers out₀ out i = Stands 36 (numbersDigits (take i numbers)) out₀ out (36 + 4 * i)
+-- The first i numbers stand from `at` up to `end`.
+First : ℕ → List ℕ → List ℕ → List ℕ → ℕ → ℕ → Type 0
+First at numbers out₀ out end i = Stands at (numbersDigits (take i numbers)) out₀ out end
 
-next : (numbers out₀ l m : List ℕ) (i : ℕ) → i < length numbers → 36 + 4 * i ≤ length out₀ → First numbers out₀ l i
-    → m ≡ putAt (36 + 4 * i) (digitsOf 4 (getD numbers i 0)) l → First numbers out₀ m (i + 1)
+next : (at : ℕ) (numbers out₀ l m : List ℕ) (j end i : ℕ) → i < length numbers → j ≤ length out₀ → First at numbers out₀ l j i
+    → end ≡ j + 4
+    → m ≡ putAt j (digitsOf 4 (getD numbers i 0)) l → First at numbers out₀ m end (i + 1)
 unfolding First
-next numbers out₀ l m i h g s e =
-    let f : 36 + 4 * (i + 1) ≡ 36 + 4 * i + 4 = omega arith in
-    rw (numbers-more numbers i h, f) (more-digits 36 (36 + 4 * i) 4 (getD numbers i 0) (numbersDigits (take i numbers)) out₀ l m s g e)
+next at numbers out₀ l m j end i h g s f e =
+    rw (numbers-more numbers i h) (more-digits at j 4 (getD numbers i 0) end (numbersDigits (take i numbers)) out₀ l m s g f e)
 
 abbrev Inv-loop : tie.InvT-loop
-Inv-loop out₀ numbers i₀ out i = (i ≤ length numbers) × (length out ≡ length out₀) × First numbers out₀ out i
+Inv-loop out₀ at numbers end₀ i₀ out end i =
+    (i ≤ length numbers) × (end ≡ at + 4 * i) × (length out ≡ length out₀) × First at numbers out₀ out end i
 
 abbrev μ-loop : tie.MeasureT-loop
-μ-loop out₀ numbers i₀ out i = length numbers - i
+μ-loop out₀ at numbers end₀ i₀ out end i = length numbers - i
 
 loop-holds : tie.Need-loop-holds Inv-loop μ-loop
 unfolding First valuesDigits
-loop-holds c = (search needs, refl, none-yet 36 _)
+loop-holds c = (search needs, search needs, refl, none-yet _ _)
 
 loop-again : tie.Need-loop-again Inv-loop μ-loop
-loop-again c = (
-  search needs,
-  search needs,
-  next _ _ _ _ _ (omega arith) (omega arith) (c .before .before .before .before .before .before .loop .inv .2) (c .before .before .put-at .ensures),
-)
+loop-again c =
+    let p = c .before .before in
+    let l = p .before .before .before .before .loop in (
+      search needs,
+      search needs,
+      search needs,
+      next _ _ _ _ _ _ _ _ (omega arith) (omega arith) (l .inv .3) (p .put-at .ensures .0)
+          (p .put-at .ensures .1),
+    )
 
 returns : tie.Need-returns Inv-loop μ-loop
 unfolding First
-returns c = c .before .loop .inv .2 .list ∙ rw (take-all (c .before .loop .i) (c .before .before .before .before .args .numbers .now) (omega arith))
+returns c =
+    let l = c .before .loop in
+    let numbers = c .before .before .before .before .args .numbers .now in
+    let s = rw (take-all (l .i) numbers (omega arith)) at (l .inv .3) in
+    (s .ends, s .list)
 
 pub put-numbers-spec : {M : Type 1} → statement M
 put-numbers-spec =
@@ -52,8 +63,6 @@ put-numbers-spec =
     Inv-loop
     μ-loop
     loop-holds
-    (λ c. search needs)
-    (λ c. search needs)
     (λ c. search needs)
     (λ c. search needs)
     (λ c. omega (arith, c .shared-slice-known2 .given (c .before .before .before .loop .i)))

@@ -11,8 +11,11 @@ use Rattle.frames.proofs.serve.serve_at.Tie as tie
 tell-found-requires : tie.Need-tell-found-requires
 tell-found-requires c κs =
     let q = c .before .before .before .before .before in
-    let s = q .before .before .before .before .before .before .before .before in
-    (omega arith, found-fits _ _ _ _ _ (s .pre .numbers) refl (q .chain-at .ensures .0) (q .chain-at .ensures .1 .0) (omega arith), omega arith)
+    let s = q .before .before .before .before .before .before .before .before in (
+      omega arith,
+      found-fits _ _ _ _ _ (s .pre .numbers) refl (q .chain-at .ensures .0) (q .chain-at .ensures .1 .0) (omega arith),
+      omega arith,
+    )
 
 returns : tie.Need-returns
 unfolding served
@@ -23,7 +26,8 @@ returns c =
     let line = s .args .line .now in
     let n = q .before .before .before .before .field-of .ensures ∙ field-fits line 1 8 (omega arith) in
     let i = q .before .before .before .field-of2 .ensures ∙ field-fits line 9 8 (omega arith) in
-    rw (← n, ← i) (found-handled _ _ _ _ _ (s .pre .numbers) refl (q .chain-at .ensures .0) (q .chain-at .ensures .1 .0) (omega arith) _ (q .chain-at .ensures .1 .1) (t .tell-found .ensures))
+    rw (← n, ← i) (found-handled _ _ _ _ _ (s .pre .numbers) refl (q .chain-at .ensures .0) (q .chain-at .ensures .1 .0)
+    (omega arith) _ (q .chain-at .ensures .1 .1) (t .tell-found .ensures))
 
 pub serve-at-spec : {M : Type 1} → statement M
 serve-at-spec =

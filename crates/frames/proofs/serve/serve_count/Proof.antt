@@ -12,7 +12,7 @@ use Rattle.chains.specs.Listing.{count}
 use Rattle.counting.specs.TableCount.{countedOf}
 use Rattle.counting.specs.declared.Counted.{Counted}
 use Rattle.counting.specs.declared.Counted.the-variants as counted
-use Rattle.lines.specs.Kinds.{counting}
+use Rattle.lines.specs.Kinds.{count-line}
 use Rattle.lines.specs.Lines.{field}
 use Rattle.lines.specs.LineLaws.{field-fits}
 use Rattle.frames.specs.ReplyDigits.{countDigits}
@@ -27,8 +27,9 @@ module _ (s : List ℕ) (n : ℕ) (a : Counted) (room : scratchSize ≤ length s
   answer : a ≡ counted.Count (count n)
   answer = e ∙ counted-served n s room
 
-  count-handled : (line s′ out out′ : List ℕ) (x : ℕ) (r : Replied) → a ≡ counted.Count x → n ≡ field line 1 8 % 2 ^ 64 → s′ ≡ scratchLeft (littleScratch s) s
-      → Told (servedWith (countDigits x)) r out out′ → Handled (served counting line) r s s′ out out′
+  count-handled : (line s′ out out′ : List ℕ) (x : ℕ) (r : Replied) → a ≡ counted.Count x → n ≡ field line 1 8 % 2 ^ 64
+      → s′ ≡ scratchLeft (littleScratch s) s
+      → Told (servedWith (countDigits x)) r out out′ → Handled (served count-line line) r s s′ out out′
   unfolding served
   count-handled line s′ out out′ x r f read left told =
       let same : x ≡ count n = cc answer in
@@ -46,7 +47,8 @@ returns c =
     let m = t .before .before .before in
     let q = m .before .before .before .before in
     let s = q .before .before .before .before .before .before in
-    count-handled _ _ _ (s .pre .numbers) (q .table-count .ensures .0) _ _ _ _ _ _ (m .count .given .1) (q .before .before .field-of .ensures)
+    count-handled _ _ _ (s .pre .numbers) (q .table-count .ensures .0) _ _ _ _ _ _ (m .count .given .1)
+    (q .before .before .field-of .ensures)
     (q .table-count .ensures .1) (t .tell-count .ensures)
 
 returns-2 : tie.Need-returns-2

@@ -1,0 +1,52 @@
+-- Theory of the digits of replies: how many there are, a test that they all pass, and those of one part number more.
+use mathlib.Core.Path.{_≡_, refl}
+use mathlib.Core.Bool.{Bool, true}
+use mathlib.Core.List.{List, [], _∷_, _++_, append-nil, append-assoc}
+use Prim.Native.Nat.{ℕ, _+_, _*_, _<_}
+use native.Mathlib.Nat.{mul-zero, mul-suc}
+use native.Mathlib.Numerals.{add-one}
+use native.Mathlib.Omega.{arith}
+use lib.ListN.{length, getD, take, length-append}
+use lib.Seq.{take-suc}
+use Rattle.digits.specs.Digits.{every, digitsOf}
+use Rattle.digits.specs.DigitLaws.{every-append, length-digits}
+use Rattle.frames.specs.ReplyDigits.{countDigits, valuesDigits, numbersDigits, headDigits, headBytes, chainDigits}
+use Rattle.frames.specs.ReplyDigits.{pricedDigits}
+
+pub length-count : (count : ℕ) → length (countDigits count) ≡ 18
+unfolding countDigits
+length-count count = simp (length-append, length-digits)
+
+pub length-values : (width : ℕ) (xs : List ℕ) → length (valuesDigits width xs) ≡ 2 * width * length xs
+unfolding valuesDigits
+length-values width [] = rw mul-zero
+length-values width (x ∷ xs) = simp (length-append, length-digits, length-values width xs, mul-suc) (omega arith)
+
+pub length-head : (n position : ℕ) (numbers : List ℕ) → length (headDigits n position numbers) ≡ 2 * headBytes
+unfolding headDigits
+length-head n position numbers = simp (length-append, length-digits)
+
+pub length-chain : (n position : ℕ) (numbers : List ℕ)
+    → length (chainDigits n position numbers) ≡ 2 * (headBytes + 2 * length numbers)
+unfolding chainDigits
+length-chain n position numbers = simp (length-append, length-head, length-values) (omega arith)
+
+pub length-priced : (n position : ℕ) (numbers : List ℕ) (price : ℕ)
+    → length (pricedDigits n position numbers price) ≡ 2 * (headBytes + 2 * length numbers + 4)
+unfolding pricedDigits
+length-priced n position numbers price = simp (length-append, length-chain, length-digits) (omega arith)
+
+pub every-values : (p : ℕ → Bool) → ((k n : ℕ) → every p (digitsOf k n) ≡ true) → (width : ℕ) (xs : List ℕ)
+    → every p (valuesDigits width xs) ≡ true
+unfolding valuesDigits every
+every-values p h width [] = refl
+every-values p h width (x ∷ xs) = simp (every-append, h, every-values p h width xs)
+
+numbers-snoc : (xs : List ℕ) (x : ℕ) → numbersDigits (xs ++ (x ∷ [])) ≡ numbersDigits xs ++ digitsOf 4 x
+unfolding valuesDigits
+numbers-snoc [] x = append-nil (digitsOf 4 x)
+numbers-snoc (y ∷ xs) x = rw (numbers-snoc xs x, append-assoc)
+
+pub numbers-more : (xs : List ℕ) (i : ℕ) → i < length xs
+    → numbersDigits (take (i + 1) xs) ≡ numbersDigits (take i xs) ++ digitsOf 4 (getD xs i 0)
+numbers-more xs i h = rw (add-one, take-suc xs i 0) (numbers-snoc (take i xs) (getD xs i 0))
