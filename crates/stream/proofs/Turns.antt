@@ -14,8 +14,8 @@ use Rattle.lines.specs.Stream.{finished, unfinished, repliesTo}
 use Rattle.lines.specs.StreamLaws.{finished-append, unfinished-append, finished-stretch, unfinished-stretch, finished-line, unfinished-line, replies-append, take-first}
 use Rattle.frames.specs.Replies.{replyOf}
 use Rattle.frames.specs.ReplyLaws.{first-515}
-use Rattle.stream.specs.Answers.{Enough, behind, behindOne, Wrote, Goes}
-use Rattle.stream.specs.Pieces.{piece, LineEnd, Later, Keeps, Adds}
+use Rattle.stream.specs.Answers.{Enough, behind, behindOne, Goes}
+use Rattle.stream.specs.Pieces.{piece, LineEnd, Later, Keeps, Adds, Wrote}
 
 -- ---- lists
 
@@ -139,8 +139,8 @@ module _ {line block keptEntry scratchEntry outEntry kept scratch out : List ℕ
   -- ---- the ends
 
   -- No room is left for another reply.
-  pub no-room : length out - written < 515 → Goes line block outEntry out at written
-  no-room h = record { within = omega arith; stops = λ l. omega arith; wrote = turn .wrote }
+  pub no-room : length out - written < 515 → Goes line block outEntry at
+  no-room h = record { within = omega arith; stops = λ l. omega (arith, turn .wrote .count) }
 
   -- No byte 10 is left in the block.
   module _ (last : length block ≤ end) where
@@ -152,16 +152,15 @@ module _ {line block keptEntry scratchEntry outEntry kept scratch out : List ℕ
         let k : length block ≡ at + (end - at) = omega arith in
         ap (λ (n : ℕ). take n block) k ∙ take-add at (end - at) block
 
-    pub all-used : Goes line block outEntry out (length block) written
-    all-used =
+    pub all-used : Goes line block outEntry (length block)
+    all-used = record { within = omega arith; stops = λ l. absurd (omega arith) }
+
+    pub all-wrote : Wrote (finished line (take (length block) block)) outEntry out written
+    all-wrote =
         let none : finished (unfinished line (take at block)) (piece at end block) ≡ [] =
         finished-stretch (unfinished line (take at block)) (piece at end block) (turn .line-end .unbroken-before)
         in
-        record {
-          within = omega arith;
-          stops = λ l. absurd (omega arith);
-          wrote = rw (whole, finished-append, none, append-nil) (turn .wrote);
-        }
+        rw (whole, finished-append, none, append-nil) (turn .wrote)
 
     pub rest-kept : (keptExit : List ℕ) (n : ℕ) → Keeps (take left kept ++ piece at (length block) block) kept keptExit n
         → Keeps (unfinished line (take (length block) block)) keptEntry keptExit n

@@ -1,13 +1,11 @@
--- `answer_rest` writes as much of `out` as the answer tells.
+-- `answer_rest` writes as much of `out` as was told.
 use borrow.Author.Needs.{needs}
-use Rattle.stream.specs.Sessions.{wrote-fits}
 use Rattle.intake.proofs.console.answer_rest.Statement.{statement}
 use Rattle.intake.proofs.console.answer_rest.Tie as tie
 
 part-put-end : tie.Need-part-put-end
 part-put-end c =
-    let a = c .before .before .before .before .before in
-    let m = wrote-fits _ _ _ _ (a .answer-end .ensures .answered (a .before .before .before .before .before .before .pre) .0) in
+    let m = c .before .before .before .before .before .take-rest .ensures .0 in
     search needs
 
 pub answer-rest-spec : {M : Type 1} → statement M

@@ -1,0 +1,27 @@
+-- What the program keeps of an unfinished line from one call to the next. Which bytes a read brings is not known, so the contracts say
+-- what is kept after the bytes that came, whatever they are.
+-- Definitions only. The laws are in ConsoleLaws.
+use mathlib.Core.Path.{_≡_}
+use mathlib.Core.List.{List}
+use Prim.Native.Nat.{ℕ, _≤_}
+use lib.ListN.{length, take}
+use Rattle.lent.specs.Lent.{filled}
+use Rattle.lines.specs.Stream.{unfinished}
+
+-- The first k places of `kept` are all that it holds: behind them are zeros up to 515. A call asks for this, so that a caller who
+-- tells fewer characters than are kept is refused.
+abbrev pub Alone : List ℕ → ℕ → Type 0
+Alone kept k = kept ≡ filled 515 (take k kept) kept
+
+-- `kept` holds the first 515 characters of a line, and k tells how many these are.
+pub record Holds (line kept : List ℕ) (k : ℕ) : Type 0 where
+  pub first : take k kept ≡ take 515 line
+  pub count : k ≡ length (take 515 line)
+  pub most : k ≤ 515
+  pub alone : Alone kept k
+
+-- A read brought some first bytes of `block`, and `kept` holds what they leave unfinished, where `line` was kept before.
+pub record ReadOn (line block kept : List ℕ) (k : ℕ) : Type 0 where
+  pub read : ℕ
+  pub within : read ≤ length block
+  pub holds : Holds (unfinished line (take read block)) kept k
