@@ -33,8 +33,10 @@ static void too_little(void)
     scratch[0] = 7;
     places[0] = 7;
     out[0] = 7;
-    must(meltsjuk_reply(line, 18, scratch, MELTSJUK_SCRATCH - 1, out, MELTSJUK_REPLY) == 0, "a reply with a short scratch");
-    must(meltsjuk_reply(line, 18, scratch, MELTSJUK_SCRATCH, out, MELTSJUK_REPLY - 1) == 0, "a reply with few bytes");
+    must(meltsjuk_reply(line, 18, scratch, MELTSJUK_SCRATCH - 1, out, MELTSJUK_REPLY) == MELTSJUK_LITTLE_LENT,
+         "a reply with a short scratch");
+    must(meltsjuk_reply(line, 18, scratch, MELTSJUK_SCRATCH, out, MELTSJUK_REPLY - 1) == MELTSJUK_LITTLE_LENT,
+         "a reply with few bytes");
     must(meltsjuk_count(19, scratch, MELTSJUK_SCRATCH - 1, &count) == MELTSJUK_LITTLE_LENT, "a count with a short scratch");
     must(meltsjuk_best(19, 64, 63, 40, 4, 7, 9, scratch, MELTSJUK_SCRATCH - 1, places, MELTSJUK_PLACES, &position, &k, &price)
              == MELTSJUK_LITTLE_LENT,
@@ -99,7 +101,7 @@ static void reply_by_line(const char *line, size_t length)
 {
     uint64_t digits = meltsjuk_reply((const uint8_t *)line, length, scratch, MELTSJUK_SCRATCH, out, MELTSJUK_REPLY);
 
-    must(digits >= 2, "a line gets no reply");
+    must(digits != MELTSJUK_LITTLE_LENT, "a line gets no reply");
     fwrite(out, 1, (size_t)digits, stdout);
     putchar('\n');
 }

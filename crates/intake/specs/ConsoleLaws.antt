@@ -15,8 +15,8 @@ use Rattle.lines.specs.Stream.{finished, unfinished, lastLine, repliesTo}
 use Rattle.lines.specs.StreamLaws.{unfinished-append, kept-unfinished}
 use Rattle.frames.specs.Replies.{replyOf}
 use Rattle.frames.specs.ReplyLaws.{first-515}
-use Rattle.stream.specs.Answers.{little, Enough, Goes, usedOf, fedOf, keptLeft, outLeft, endedOf}
-use Rattle.stream.specs.AnswerLaws.{enough-lent, Served, served, what-kept, what-wrote, wrote-fits, end-served, Moves, moves-on}
+use Rattle.stream.specs.Answers.{little, Enough, Goes, usedOf, fedOf, keptLeft, outLeft, Moves, endedOf}
+use Rattle.stream.specs.AnswerLaws.{enough-lent, Served, served, what-kept, what-wrote, wrote-fits, end-served, moves-on}
 use Rattle.stream.specs.declared.Fed.{Fed}
 use Rattle.stream.specs.declared.Fed.the-variants as fed
 use Rattle.stream.specs.declared.Ended.{Ended}

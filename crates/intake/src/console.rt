@@ -11,9 +11,8 @@ ghost use Prim.Native.Nat.{_≤_, _<_};
 ghost use lib.ListN.{length, take};
 ghost use Rattle.lines.specs.Stream.{finished, unfinished, lastLine, repliesTo};
 ghost use Rattle.frames.specs.Replies.{replyOf};
-ghost use Rattle.stream.specs.Answers.{Enough};
-ghost use Rattle.stream.specs.AnswerLaws.{Moves};
-ghost use Rattle.intake.specs.Console.{Alone, Holds, ReadOn};
+ghost use Rattle.stream.specs.Answers.{Moves};
+ghost use Rattle.intake.specs.Console.{Ready, Holds, ReadOn};
 
 // Whether a call that moved no bytes was only interrupted by a signal, and is to be tried again.
 fn was_interrupted(moved: isize) -> bool {
@@ -63,7 +62,7 @@ struct Taken {
 
 // Answers as much of a block as the room for replies takes. Enough is lent, so that no call is refused.
 fn take_part(block: &[u8], kept: &mut [u8], k: usize, scratch: &mut [u64], out: &mut [u8]) -> Taken
-    requires { ⌜ Enough (length (now kept)) k (length (now scratch)) (length (now out)) ⌝ }
+    requires { ⌜ Ready (now kept) k (now scratch) (now out) ⌝ }
     ensures moves { λ r. ⌜ Moves (now (block .entry)) (now (out .exit)) (r .used) (r .kept) (r .written) ⌝ }
     ensures kept { λ r. ⌜ Holds (unfinished (take k (now (kept .entry))) (take (r .used) (now (block .entry)))) (now (kept .exit)) (r .kept) ⌝ }
     ensures out { λ r. ⌜ take (r .written) (now (out .exit))
@@ -96,7 +95,7 @@ struct Part {
 
 // Answers as much of a block as the room for replies takes, and writes the replies.
 fn answer_part(block: &[u8], kept: &mut [u8], k: usize, scratch: &mut [u64], out: &mut [u8]) -> Part
-    requires { ⌜ Enough (length (now kept)) k (length (now scratch)) (length (now out)) ⌝ }
+    requires { ⌜ Ready (now kept) k (now scratch) (now out) ⌝ }
     ensures moves { λ r. ⌜ (r .used ≤ length (now (block .entry))) × (0 < length (now (block .entry)) → 0 < r .used) ⌝ }
     ensures kept { λ r. ⌜ Holds (unfinished (take k (now (kept .entry))) (take (r .used) (now (block .entry)))) (now (kept .exit)) (r .kept) ⌝ }
 {
@@ -123,8 +122,7 @@ fn answer_bytes(
     scratch: &mut [u64],
     out: &mut [u8],
 ) -> Answer
-    requires { ⌜ Enough (length (now kept)) k (length (now scratch)) (length (now out)) ⌝ }
-    requires { ⌜ Alone (now kept) k ⌝ }
+    requires { ⌜ Ready (now kept) k (now scratch) (now out) ⌝ }
     ensures { λ r. ⌜ (r .more ≡ true → Holds (unfinished (take k (now (kept .entry))) (now (block .entry))) (now (kept .exit)) (r .kept)) ⌝ }
 {
     let mut left = k;
@@ -148,7 +146,7 @@ fn answer_bytes(
 
 // Answers what is kept at the end of the input, and tells how many bytes of a reply it wrote to memory.
 fn take_rest(kept: &[u8], k: usize, scratch: &mut [u64], out: &mut [u8]) -> usize
-    requires { ⌜ Enough (length (now kept)) k (length (now scratch)) (length (now out)) ⌝ }
+    requires { ⌜ Ready (now kept) k (now scratch) (now out) ⌝ }
     ensures { λ r. ⌜ (r ≤ length (now (out .exit))) × (take r (now (out .exit)) ≡ repliesTo replyOf (lastLine (take k (now (kept .entry))))) ⌝ }
 {
     match stream::answer_end(kept, k, scratch, out) {
@@ -159,7 +157,7 @@ fn take_rest(kept: &[u8], k: usize, scratch: &mut [u64], out: &mut [u8]) -> usiz
 
 // The same, and writes the reply.
 fn answer_rest(kept: &[u8], k: usize, scratch: &mut [u64], out: &mut [u8])
-    requires { ⌜ Enough (length (now kept)) k (length (now scratch)) (length (now out)) ⌝ }
+    requires { ⌜ Ready (now kept) k (now scratch) (now out) ⌝ }
 {
     let written = take_rest(kept, k, scratch, out);
     put(&out[0..written]);
@@ -174,8 +172,7 @@ fn answer_read(
     scratch: &mut [u64],
     out: &mut [u8],
 ) -> Answer
-    requires { ⌜ Enough (length (now kept)) k (length (now scratch)) (length (now out)) ⌝ }
-    requires { ⌜ Alone (now kept) k ⌝ }
+    requires { ⌜ Ready (now kept) k (now scratch) (now out) ⌝ }
     ensures { λ r. ⌜ (r .more ≡ true → ReadOn (take k (now (kept .entry))) (now (block .exit)) (now (kept .exit)) (r .kept)) ⌝ }
 {
     let got = libc::read(STDIN_FILENO, block);
@@ -201,8 +198,7 @@ fn answer_read(
 
 // Answers all of the input in lent memory.
 fn answer_all(block: &mut [u8], kept: &mut [u8], scratch: &mut [u64], out: &mut [u8])
-    requires { ⌜ Enough (length (now kept)) 0 (length (now scratch)) (length (now out)) ⌝ }
-    requires { ⌜ Alone (now kept) 0 ⌝ }
+    requires { ⌜ Ready (now kept) 0 (now scratch) (now out) ⌝ }
 {
     let mut k = 0;
     let mut turns = u64::MAX;

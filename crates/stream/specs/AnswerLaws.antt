@@ -14,7 +14,7 @@ use Rattle.lent.specs.Lent.{filled, scratchSize, littleScratch, tooLittle}
 use Rattle.lent.specs.LentLaws.{filled-first, enough}
 use Rattle.lines.specs.Stream.{finished, unfinished, lastLine, repliesTo}
 use Rattle.frames.specs.Replies.{replyOf}
-use Rattle.stream.specs.Answers.{little, Enough, behind, outLeft, Goes, fedOf, keptLeft, endedOf}
+use Rattle.stream.specs.Answers.{little, Enough, behind, outLeft, Goes, fedOf, keptLeft, Moves, endedOf}
 use Rattle.stream.specs.Pieces.{Wrote}
 use Rattle.stream.specs.declared.Fed.the-variants as fed
 use Rattle.stream.specs.declared.Ended.the-variants as ended
@@ -103,13 +103,6 @@ some-used : (line block out : List ℕ) (used : ℕ) → Goes line block out use
 unfolding finished repliesTo
 some-used line block out zero g room some-there = absurd (omega (arith, g .stops some-there))
 some-used line block out (suc used) g room some-there = omega arith
-
--- What a caller's loop rests on: a call uses some of a block that is not empty, and the numbers that it tells are within bounds.
-pub record Moves (block outExit : List ℕ) (used left n : ℕ) : Type 0 where
-  pub within : used ≤ length block
-  pub some : 0 < length block → 0 < used
-  pub most-kept : left ≤ 515
-  pub fits : n ≤ length outExit
 
 pub moves-on : {line block kept keptExit out outExit : List ℕ} {used left n : ℕ} → Served line block kept keptExit out outExit used left n
     → Goes line block out used → 515 ≤ length out → Moves block outExit used left n

@@ -69,6 +69,13 @@ fedOf false line block used =
 unfoldable pub keptLeft : Bool → List ℕ → List ℕ → List ℕ
 keptLeft little line entry = cond little entry (filled 515 (take 515 line) entry)
 
+-- What a caller's loop rests on: a call uses some of a block that is not empty, and the numbers that it tells are within bounds.
+pub record Moves (block outExit : List ℕ) (used left n : ℕ) : Type 0 where
+  pub within : used ≤ length block
+  pub some : 0 < length block → 0 < used
+  pub most-kept : left ≤ 515
+  pub fits : n ≤ length outExit
+
 -- ---- the end of a file
 
 -- The answer: `line` was read before the end and is the last line, unless it is empty. How many bytes are written; or refusal 1.

@@ -16,10 +16,10 @@ abbrev μ-loop : tie.MeasureT-loop
 μ-loop block₀ kept₀ scratch₀ out₀ k₀ turns₀ block kept scratch out k turns = turns
 
 loop-holds : tie.Need-loop-holds Inv-loop μ-loop
-loop-holds c = (search needs, search needs, c .before .before .before .before .pre .1)
+loop-holds c = (search needs, search needs, c .before .before .before .before .pre .alone)
 
 answer-read-requires : tie.Need-answer-read-requires Inv-loop μ-loop
-answer-read-requires c κs = (search needs, c .before .before .before .before .before .loop .inv .2)
+answer-read-requires c κs = record { enough = search needs; alone = c .before .before .before .before .before .loop .inv .2 }
 
 loop-again : tie.Need-loop-again Inv-loop μ-loop
 loop-again c =

@@ -21,7 +21,7 @@ abbrev μ-loop : tie.MeasureT-loop
 loop-holds : tie.Need-loop-holds Inv-loop μ-loop
 loop-holds c =
     let s = c .before .before .before .before in
-    (search needs, search needs, holds-itself _ _ (s .pre .0 .line-kept) (s .pre .0 .kept-lent) (s .pre .1))
+    (search needs, search needs, holds-itself _ _ (s .pre .enough .line-kept) (s .pre .enough .kept-lent) (s .pre .alone))
 
 loop-less : tie.Need-loop-less Inv-loop μ-loop
 loop-less c =

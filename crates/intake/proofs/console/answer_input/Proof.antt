@@ -5,7 +5,7 @@ use Rattle.intake.proofs.console.answer_input.Statement.{statement}
 use Rattle.intake.proofs.console.answer_input.Tie as tie
 
 answer-all-requires : tie.Need-answer-all-requires
-answer-all-requires c κs = (search needs, zeros-alone 515)
+answer-all-requires c κs = record { enough = search needs; alone = zeros-alone 515 }
 
 pub answer-input-spec : {M : Type 1} → statement M
 answer-input-spec =
