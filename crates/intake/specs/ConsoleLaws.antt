@@ -49,10 +49,13 @@ unfolding filled
 filled-again size xs entry h =
     let z = zeros (size - length xs) in
     let n : length (xs ++ z) ≡ size = rw (length-append xs z, length-zeros (size - length xs)) (omega arith) in
-    ap (λ (l : List ℕ). xs ++ (z ++ l)) (ap (drop size) (sym (append-assoc xs z (drop size entry))) ∙ drop-at (xs ++ z) (drop size entry) size n)
+    let later : drop size (xs ++ (z ++ drop size entry)) ≡ drop size entry =
+    ap (drop size) (sym (append-assoc xs z (drop size entry))) ∙ drop-at (xs ++ z) (drop size entry) size n
+    in
+    ap (λ (l : List ℕ). xs ++ (z ++ l)) later
 
-pub call-holds : (line block kept keptExit out outExit : List ℕ) (used left n : ℕ) → Served line block kept keptExit out outExit used left n
-    → Holds (unfinished line (take used block)) keptExit left
+pub call-holds : (line block kept keptExit out outExit : List ℕ) (used left n : ℕ)
+    → Served line block kept keptExit out outExit used left n → Holds (unfinished line (take used block)) keptExit left
 call-holds line block kept keptExit out outExit used left n s =
     let xs = take 515 (unfinished line (take used block)) in
     let first : take left keptExit ≡ xs = what-kept line block kept keptExit out outExit used left n s in
@@ -67,11 +70,14 @@ call-holds line block kept keptExit out outExit used left n s =
 -- ---- two calls
 
 -- The second call goes on from what the first one kept, at `at` of the block.
-pub holds-more : (line block kept : List ℕ) (at left : ℕ) (keptExit : List ℕ) (used more : ℕ) → Holds (unfinished line (take at block)) kept left
+pub holds-more : (line block kept : List ℕ) (at left : ℕ) (keptExit : List ℕ) (used more : ℕ)
+    → Holds (unfinished line (take at block)) kept left
     → Holds (unfinished (take left kept) (take used (take (length block - at) (drop at block)))) keptExit more
     → Holds (unfinished line (take (at + used) block)) keptExit more
 holds-more line block kept at left keptExit used more a b =
-    let rest : take (length block - at) (drop at block) ≡ drop at block = take-all (length block - at) (drop at block) (omega (arith, length-drop at block)) in
+    let rest : take (length block - at) (drop at block) ≡ drop at block =
+    take-all (length block - at) (drop at block) (omega (arith, length-drop at block))
+    in
     let same :
     take 515 (unfinished (take left kept) (take used (take (length block - at) (drop at block))))
     ≡ take 515 (unfinished line (take (at + used) block)) =
@@ -102,34 +108,39 @@ end-refused false line q n e =
     omega arith
 
 module _ (kept : List ℕ) (k : ℕ) (scratch out : List ℕ) (lent : Enough (length kept) k (length scratch) (length out)) where
-  -- A call on a block answers r.
-  module _ (block : List ℕ) (r : Fed) (told : r ≡ fedOf (little kept k scratch out) (take k kept) block (usedOf r)) where
-    pub block-not-refused : (q : ℕ) → r ≡ fed.Refused q → ⊥
-    block-not-refused q e =
-        fed-refused (little kept k scratch out) (take k kept) block (usedOf r) q (enough-lent kept k scratch out lent) (sym e ∙ told)
+  abbrev b : Bool
+  b = little kept k scratch out
 
-    pub block-taken : (keptExit outExit : List ℕ) (used left n : ℕ) → r ≡ fed.Taken used left n → (little kept k scratch out ≡ false → Goes (take k kept) block out (usedOf r))
-        → keptExit ≡ keptLeft (little kept k scratch out) (unfinished (take k kept) (take (usedOf r) block)) kept
-        → outExit ≡ outLeft (little kept k scratch out) (finished (take k kept) (take (usedOf r) block)) out
+  abbrev line : List ℕ
+  line = take k kept
+
+  -- A call on a block answers r.
+  module _ (block : List ℕ) (r : Fed) (told : r ≡ fedOf b line block (usedOf r)) where
+    pub block-not-refused : (q : ℕ) → r ≡ fed.Refused q → ⊥
+    block-not-refused q e = fed-refused b line block (usedOf r) q (enough-lent kept k scratch out lent) (sym e ∙ told)
+
+    pub block-taken : (keptExit outExit : List ℕ) (used left n : ℕ) → r ≡ fed.Taken used left n
+        → (b ≡ false → Goes line block out (usedOf r)) → keptExit ≡ keptLeft b (unfinished line (take (usedOf r) block)) kept
+        → outExit ≡ outLeft b (finished line (take (usedOf r) block)) out
         → Moves block outExit used left n
-        × (Holds (unfinished (take k kept) (take used block)) keptExit left
-        × (take n outExit ≡ repliesTo replyOf (finished (take k kept) (take used block))))
+        × (Holds (unfinished line (take used block)) keptExit left
+        × (take n outExit ≡ repliesTo replyOf (finished line (take used block))))
     unfolding usedOf
     block-taken keptExit outExit used left n e goes l o =
         let u : usedOf r ≡ used = ap usedOf e in
-        let s = served (little kept k scratch out) (take k kept) block kept keptExit out outExit used left n (rw u at (sym e ∙ told)) (rw u at l) (rw u at o) in
-        let g : Goes (take k kept) block out used = rw u at (goes (enough-lent kept k scratch out lent)) in (
+        let s = served b line block kept keptExit out outExit used left n (rw u at (sym e ∙ told)) (rw u at l) (rw u at o) in
+        let g : Goes line block out used = rw u at (goes (enough-lent kept k scratch out lent)) in (
           moves-on s g (lent .out-lent),
-          (call-holds (take k kept) block kept keptExit out outExit used left n s, what-wrote _ out outExit n (s .wrote)),
+          (call-holds line block kept keptExit out outExit used left n s, what-wrote _ out outExit n (s .wrote)),
         )
 
   -- The call at the end answers r.
-  module _ (r : Ended) (told : r ≡ endedOf (little kept k scratch out) (take k kept)) where
+  module _ (r : Ended) (told : r ≡ endedOf b line) where
     pub end-not-refused : (q : ℕ) → r ≡ ended.Refused q → ⊥
-    end-not-refused q e = end-refused (little kept k scratch out) (take k kept) q (enough-lent kept k scratch out lent) (sym e ∙ told)
+    end-not-refused q e = end-refused b line q (enough-lent kept k scratch out lent) (sym e ∙ told)
 
-    pub end-written : (outExit : List ℕ) (n : ℕ) → r ≡ ended.Written n → outExit ≡ outLeft (little kept k scratch out) (lastLine (take k kept)) out
-        → (n ≤ length outExit) × (take n outExit ≡ repliesTo replyOf (lastLine (take k kept)))
+    pub end-written : (outExit : List ℕ) (n : ℕ) → r ≡ ended.Written n → outExit ≡ outLeft b (lastLine line) out
+        → (n ≤ length outExit) × (take n outExit ≡ repliesTo replyOf (lastLine line))
     end-written outExit n e o =
-        let w = end-served (little kept k scratch out) (take k kept) out outExit n (sym e ∙ told) o in
+        let w = end-served b line out outExit n (sym e ∙ told) o in
         (wrote-fits _ out outExit n w, what-wrote _ out outExit n w)

@@ -64,7 +64,8 @@ struct Taken {
 fn take_part(block: &[u8], kept: &mut [u8], k: usize, scratch: &mut [u64], out: &mut [u8]) -> Taken
     requires { ⌜ Ready (now kept) k (now scratch) (now out) ⌝ }
     ensures moves { λ r. ⌜ Moves (now (block .entry)) (now (out .exit)) (r .used) (r .kept) (r .written) ⌝ }
-    ensures kept { λ r. ⌜ Holds (unfinished (take k (now (kept .entry))) (take (r .used) (now (block .entry)))) (now (kept .exit)) (r .kept) ⌝ }
+    ensures kept { λ r. ⌜ Holds (unfinished (take k (now (kept .entry))) (take (r .used) (now (block .entry)))) (now (kept .exit))
+        (r .kept) ⌝ }
     ensures out { λ r. ⌜ take (r .written) (now (out .exit))
         ≡ repliesTo replyOf (finished (take k (now (kept .entry))) (take (r .used) (now (block .entry)))) ⌝ }
 {
@@ -97,7 +98,8 @@ struct Part {
 fn answer_part(block: &[u8], kept: &mut [u8], k: usize, scratch: &mut [u64], out: &mut [u8]) -> Part
     requires { ⌜ Ready (now kept) k (now scratch) (now out) ⌝ }
     ensures moves { λ r. ⌜ (r .used ≤ length (now (block .entry))) × (0 < length (now (block .entry)) → 0 < r .used) ⌝ }
-    ensures kept { λ r. ⌜ Holds (unfinished (take k (now (kept .entry))) (take (r .used) (now (block .entry)))) (now (kept .exit)) (r .kept) ⌝ }
+    ensures kept { λ r. ⌜ Holds (unfinished (take k (now (kept .entry))) (take (r .used) (now (block .entry)))) (now (kept .exit))
+        (r .kept) ⌝ }
 {
     let taken = take_part(block, kept, k, scratch, out);
     let written = taken.written;
@@ -123,7 +125,8 @@ fn answer_bytes(
     out: &mut [u8],
 ) -> Answer
     requires { ⌜ Ready (now kept) k (now scratch) (now out) ⌝ }
-    ensures { λ r. ⌜ (r .more ≡ true → Holds (unfinished (take k (now (kept .entry))) (now (block .entry))) (now (kept .exit)) (r .kept)) ⌝ }
+    ensures { λ r. ⌜ (r .more ≡ true
+        → Holds (unfinished (take k (now (kept .entry))) (now (block .entry))) (now (kept .exit)) (r .kept)) ⌝ }
 {
     let mut left = k;
     let mut at = 0;
@@ -147,7 +150,8 @@ fn answer_bytes(
 // Answers what is kept at the end of the input, and tells how many bytes of a reply it wrote to memory.
 fn take_rest(kept: &[u8], k: usize, scratch: &mut [u64], out: &mut [u8]) -> usize
     requires { ⌜ Ready (now kept) k (now scratch) (now out) ⌝ }
-    ensures { λ r. ⌜ (r ≤ length (now (out .exit))) × (take r (now (out .exit)) ≡ repliesTo replyOf (lastLine (take k (now (kept .entry))))) ⌝ }
+    ensures { λ r. ⌜ (r ≤ length (now (out .exit)))
+        × (take r (now (out .exit)) ≡ repliesTo replyOf (lastLine (take k (now (kept .entry))))) ⌝ }
 {
     match stream::answer_end(kept, k, scratch, out) {
         Ended::Written(written) => written,
@@ -163,8 +167,8 @@ fn answer_rest(kept: &[u8], k: usize, scratch: &mut [u64], out: &mut [u8])
     put(&out[0..written]);
 }
 
-// Reads once and answers what came. A read that was interrupted brings nothing, and the next one tries again. Where there is more to
-// read, what the bytes that came leave unfinished is kept.
+// Reads once and answers what came. A read that was interrupted brings nothing, and the next one tries again. Where there is more
+// to read, what the bytes that came leave unfinished is kept.
 fn answer_read(
     block: &mut [u8],
     kept: &mut [u8],

@@ -72,8 +72,9 @@ pub record Served (line block kept keptExit out outExit : List ℕ) (used left n
   pub count : left ≡ length (take 515 (unfinished line (take used block)))
   pub wrote : Wrote (finished line (take used block)) out outExit n
 
-pub served : (b : Bool) (line block kept keptExit out outExit : List ℕ) (used left n : ℕ) → fed.Taken used left n ≡ fedOf b line block used
-    → keptExit ≡ keptLeft b (unfinished line (take used block)) kept → outExit ≡ outLeft b (finished line (take used block)) out
+pub served : (b : Bool) (line block kept keptExit out outExit : List ℕ) (used left n : ℕ)
+    → fed.Taken used left n ≡ fedOf b line block used → keptExit ≡ keptLeft b (unfinished line (take used block)) kept
+    → outExit ≡ outLeft b (finished line (take used block)) out
     → Served line block kept keptExit out outExit used left n
 unfolding fedOf keptLeft outLeft
 served true line block kept keptExit out outExit used left n e k o =
@@ -83,14 +84,14 @@ served false line block kept keptExit out outExit used left n e k o =
     record { keeps = k; count = cc; wrote = record { replies = o; count = cc } }
 
 -- What is kept is the first 515 characters of the line that does not end.
-pub what-kept : (line block kept keptExit out outExit : List ℕ) (used left n : ℕ) → Served line block kept keptExit out outExit used left n
-    → take left keptExit ≡ take 515 (unfinished line (take used block))
+pub what-kept : (line block kept keptExit out outExit : List ℕ) (used left n : ℕ)
+    → Served line block kept keptExit out outExit used left n → take left keptExit ≡ take 515 (unfinished line (take used block))
 what-kept line block kept keptExit out outExit used left n s =
     rw (s .keeps, s .count) (filled-first 515 (take 515 (unfinished line (take used block))) kept)
 
 -- At the end of a file.
-pub end-served : (b : Bool) (line out outExit : List ℕ) (n : ℕ) → ended.Written n ≡ endedOf b line → outExit ≡ outLeft b (lastLine line) out
-    → Wrote (lastLine line) out outExit n
+pub end-served : (b : Bool) (line out outExit : List ℕ) (n : ℕ) → ended.Written n ≡ endedOf b line
+    → outExit ≡ outLeft b (lastLine line) out → Wrote (lastLine line) out outExit n
 unfolding endedOf outLeft
 end-served true line out outExit n e o =
     let z : _≡_ {A = ℕ} 0 1 = cc in
@@ -104,8 +105,8 @@ unfolding finished repliesTo
 some-used line block out zero g room some-there = absurd (omega (arith, g .stops some-there))
 some-used line block out (suc used) g room some-there = omega arith
 
-pub moves-on : {line block kept keptExit out outExit : List ℕ} {used left n : ℕ} → Served line block kept keptExit out outExit used left n
-    → Goes line block out used → 515 ≤ length out → Moves block outExit used left n
+pub moves-on : {line block kept keptExit out outExit : List ℕ} {used left n : ℕ}
+    → Served line block kept keptExit out outExit used left n → Goes line block out used → 515 ≤ length out → Moves block outExit used left n
 moves-on {line} {block} {kept} {keptExit} {out} {outExit} {used} {left} {n} s g room = record {
   within = g .within;
   some = some-used line block out used g room;

@@ -1,4 +1,4 @@
--- What a call that answers a block of a file, or the end of a file, answers and leaves: document 01, 'Frames'. The lines of a file and
+-- What a call on a block of a file, and one at the end of a file, answers and leaves: document 01, 'Frames'. The lines of a file and
 -- the replies to them are defined in the crate lines (Stream), the reply to one line in the crate frames (Replies).
 --
 -- In this order: whether too little is lent; the replies in `out`; a block; the end of a file.
@@ -47,8 +47,9 @@ outLeft little lines entry = cond little entry (repliesTo replyOf lines ++ behin
 
 -- ---- a block
 
--- `line` was read before the block. How far a call goes in the block is left to it, and it tells that as `used`. It stops before the
--- end of the block only where `out` has no room for another reply. All else follows from `used`, by the equations below.
+-- `line` was read before the block. How far a call goes in the block is left to it, and told as `used`. This is a law and no
+-- equation: it stops before the end of the block only where `out` has no room for another reply. All else that the call answers and
+-- leaves is an equation in `used`.
 pub record Goes (line block out : List ℕ) (used : ℕ) : Type 0 where
   pub within : used ≤ length block
   pub stops : used < length block → length out < length (repliesTo replyOf (finished line (take used block))) + 515
@@ -62,7 +63,8 @@ usedOf (fed.Refused r) = 0
 unfoldable pub fedOf : Bool → List ℕ → List ℕ → ℕ → Fed
 fedOf true line block used = fed.Refused 1
 fedOf false line block used =
-    fed.Taken used (length (take 515 (unfinished line (take used block)))) (length (repliesTo replyOf (finished line (take used block))))
+    fed.Taken used (length (take 515 (unfinished line (take used block))))
+    (length (repliesTo replyOf (finished line (take used block))))
 
 -- `kept` at exit: untouched where too little is lent, else the first 515 characters of the line that does not end, then zeros up to
 -- 515, and later places untouched.

@@ -18,14 +18,15 @@ use Rattle.stream.specs.declared.Ended.the-variants as ended
 
 -- ---- the calls on a file
 
--- The line that was kept before; what each call uses of its block; what all of them write. Each call is served, and the equations are
--- those of its contract. A call on a block hands what it keeps to the next one; the last call is the one at the end of the file.
+-- The line that was kept before; what each call uses of its block; what all of them write. Each call is served, and the equations
+-- are those of its contract. A call on a block hands what it keeps to the next one; the last call is at the end of the file.
 pub data Session : List ℕ → List (List ℕ) → List ℕ → Type 0 where
   end-call : (kept : List ℕ) (k : ℕ) (scratch out outExit : List ℕ) (n : ℕ)
       → ended.Written n ≡ endedOf (little kept k scratch out) (take k kept)
       → outExit ≡ outLeft (little kept k scratch out) (lastLine (take k kept)) out
       → Session (take k kept) [] (take n outExit)
-  block-call : (block kept : List ℕ) (k : ℕ) (scratch out keptExit outExit : List ℕ) (used left n : ℕ) (pieces : List (List ℕ)) (written : List ℕ)
+  block-call : (block kept : List ℕ) (k : ℕ) (scratch out keptExit outExit : List ℕ) (used left n : ℕ)
+      (pieces : List (List ℕ)) (written : List ℕ)
       → fed.Taken used left n ≡ fedOf (little kept k scratch out) (take k kept) block used
       → keptExit ≡ keptLeft (little kept k scratch out) (unfinished (take k kept) (take used block)) kept
       → outExit ≡ outLeft (little kept k scratch out) (finished (take k kept) (take used block)) out
@@ -35,16 +36,21 @@ pub data Session : List ℕ → List (List ℕ) → List ℕ → Type 0 where
 session-answers : {line : List ℕ} {pieces : List (List ℕ)} {written : List ℕ} → Session line pieces written
     → written ≡ answersTo replyOf 515 line pieces
 unfolding answersTo
-session-answers (end-call kept k scratch out outExit n e o) = what-wrote _ out outExit n (end-served _ (take k kept) out outExit n e o)
+session-answers (end-call kept k scratch out outExit n e o) =
+    what-wrote _ out outExit n (end-served _ (take k kept) out outExit n e o)
 session-answers (block-call block kept k scratch out keptExit outExit used left n pieces written e l o s) =
     let c = served _ (take k kept) block kept keptExit out outExit used left n e l o in
-    rw
-    (what-wrote _ out outExit n (c .wrote), ← what-kept (take k kept) block kept keptExit out outExit used left n c, ← session-answers s)
+    rw (
+      what-wrote _ out outExit n (c .wrote),
+      ← what-kept (take k kept) block kept keptExit out outExit used left n c,
+      ← session-answers s,
+    )
 
 -- ---- the theorem
 
 -- From the start of a file, which the pieces make: the replies to its lines.
-pub session-replies : (pieces : List (List ℕ)) (written : List ℕ) → Session [] pieces written → written ≡ repliesTo replyOf (linesOf (flatten pieces))
+pub session-replies : (pieces : List (List ℕ)) (written : List ℕ) → Session [] pieces written
+    → written ≡ repliesTo replyOf (linesOf (flatten pieces))
 session-replies pieces written s = session-answers s ∙ answers-lines replyOf 515 (omega arith) first-515 pieces
 
 -- ---- what is written, line by line

@@ -13,8 +13,8 @@ ghost use Rattle.frames.specs.Replies.{replyOf};
 ghost use Rattle.stream.specs.Answers.{little, Enough, Goes, usedOf, fedOf, keptLeft, outLeft, endedOf};
 ghost use Rattle.stream.specs.Pieces.{LineEnd, Later, Keeps, Adds, Wrote, digitsTold};
 
-// What a block gets: how much of it was used, how many characters are kept of the line that it leaves unfinished, and how many bytes
-// of replies were written; or the number of the refusal.
+// What a block gets: how much of it was used, how many characters are kept of the line that it leaves unfinished, and how many
+// bytes of replies were written; or the number of the refusal.
 pub enum Fed {
     Taken {
         used: usize,
@@ -151,8 +151,10 @@ fn answer_lines(
 ) -> Progress
     requires { ⌜ Enough (length (now kept)) k (length (now scratch)) (length (now out)) ⌝ }
     ensures { λ r. ⌜ Goes (take k (now (kept .entry))) (now (block .entry)) (now (out .entry)) (r .used) ⌝ }
-    ensures { λ r. ⌜ Wrote (finished (take k (now (kept .entry))) (take (r .used) (now (block .entry)))) (now (out .entry)) (now (out .exit)) (r .written) ⌝ }
-    ensures { λ r. ⌜ Keeps (unfinished (take k (now (kept .entry))) (take (r .used) (now (block .entry)))) (now (kept .entry)) (now (kept .exit)) (r .kept) ⌝ }
+    ensures { λ r. ⌜ Wrote (finished (take k (now (kept .entry))) (take (r .used) (now (block .entry)))) (now (out .entry))
+        (now (out .exit)) (r .written) ⌝ }
+    ensures { λ r. ⌜ Keeps (unfinished (take k (now (kept .entry))) (take (r .used) (now (block .entry)))) (now (kept .entry))
+        (now (kept .exit)) (r .kept) ⌝ }
     ensures { λ _. ⌜ Later scratchSize (now (scratch .entry)) (now (scratch .exit)) ⌝ }
 {
     let mut at = 0;
@@ -190,10 +192,10 @@ fn clear_behind(kept: &mut [u8], n: usize)
 
 // Answers a block of a file. The first k of `kept` hold what was kept of the line that the block goes on with, nothing at the start
 // of a file. `out` gets the replies to the lines that end in the block, as many as there is room for: 515 bytes are asked for each,
-// which take the longest reply. `used` bytes of the block have been consumed; the rest of it is for the next call. `kept` gets the
-// first 515 characters of the line that is left unfinished, then zeros up to 515; the scratch gets zeros up to `lent::SCRATCH`; both
-// keep what stands after. Refuses with 1 where less than `lent::SCRATCH` of scratch, 515 of kept or 515 of out is lent, or k is
-// above 515; then nothing is touched.
+// which take the longest reply and its byte 10. `used` bytes of the block have been consumed; the rest of it is for the next call.
+// `kept` gets the first 515 characters of the line that is left unfinished, then zeros up to 515; the scratch gets zeros up to
+// `lent::SCRATCH`; both keep what stands after. Refuses with 1 where less than `lent::SCRATCH` of scratch, 515 of kept or 515 of
+// out is lent, or k is above 515; then nothing is touched.
 pub fn answer_block(
     block: &[u8],
     kept: &mut [u8],
@@ -202,7 +204,8 @@ pub fn answer_block(
     out: &mut [u8],
 ) -> Fed
     ensures answer { λ r. ⌜ r
-        ≡ fedOf (little (now (kept .entry)) k (now (scratch .entry)) (now (out .entry))) (take k (now (kept .entry))) (now (block .entry)) (usedOf r) ⌝ }
+        ≡ fedOf (little (now (kept .entry)) k (now (scratch .entry)) (now (out .entry))) (take k (now (kept .entry)))
+        (now (block .entry)) (usedOf r) ⌝ }
     ensures goes { λ r. ⌜ (little (now (kept .entry)) k (now (scratch .entry)) (now (out .entry)) ≡ false
         → Goes (take k (now (kept .entry))) (now (block .entry)) (now (out .entry)) (usedOf r)) ⌝ }
     ensures kept { λ r. ⌜ now (kept .exit)
@@ -233,7 +236,8 @@ pub fn answer_end(kept: &[u8], k: usize, scratch: &mut [u64], out: &mut [u8]) ->
     ensures answer { λ r. ⌜ r
         ≡ endedOf (little (now (kept .entry)) k (now (scratch .entry)) (now (out .entry))) (take k (now (kept .entry))) ⌝ }
     ensures out { λ _. ⌜ now (out .exit)
-        ≡ outLeft (little (now (kept .entry)) k (now (scratch .entry)) (now (out .entry))) (lastLine (take k (now (kept .entry)))) (now (out .entry)) ⌝ }
+        ≡ outLeft (little (now (kept .entry)) k (now (scratch .entry)) (now (out .entry))) (lastLine (take k (now (kept .entry))))
+        (now (out .entry)) ⌝ }
     ensures scratch { λ _. ⌜ now (scratch .exit)
         ≡ scratchLeft (little (now (kept .entry)) k (now (scratch .entry)) (now (out .entry))) (now (scratch .entry)) ⌝ }
 {
