@@ -1,5 +1,5 @@
--- What the program keeps of an unfinished line from one call to the next. No contract says which bytes a read brings; these say what
--- is kept after any bytes.
+-- What the program keeps of an unfinished line from one call to the next. No contract says which bytes a read brings; these say
+-- what is kept after any bytes.
 -- Definitions only. The laws are in ConsoleLaws.
 use mathlib.Core.Path.{_≡_}
 use mathlib.Core.List.{List}

@@ -17,8 +17,8 @@ use Rattle.frames.specs.Replies.{replyOf}
 
 -- ---- the reply to a line
 
--- How many digits the reply to a line has, or refusal 1 where too little is lent. A reply has at least two digits (AnswerLaws), so 1
--- is no length.
+-- How many digits the reply to a line has, or refusal 1 where too little is lent. A reply has at least two digits (AnswerLaws), so
+-- 1 is no length.
 unfoldable pub digitsOrRefusal : Bool → List ℕ → ℕ
 digitsOrRefusal true line = 1
 digitsOrRefusal false line = length (replyOf line)

@@ -106,7 +106,8 @@ some-used line block out zero g room some-there = absurd (omega (arith, g .stops
 some-used line block out (suc used) g room some-there = omega arith
 
 pub moves-on : {line block kept keptExit out outExit : List ℕ} {used left n : ℕ}
-    → Served line block kept keptExit out outExit used left n → Goes line block out used → 515 ≤ length out → Moves block outExit used left n
+    → Served line block kept keptExit out outExit used left n → Goes line block out used → 515 ≤ length out
+    → Moves block outExit used left n
 moves-on {line} {block} {kept} {keptExit} {out} {outExit} {used} {left} {n} s g room = record {
   within = g .within;
   some = some-used line block out used g room;

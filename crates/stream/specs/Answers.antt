@@ -1,5 +1,5 @@
--- What a call on a block of a file, and one at the end of a file, answers and leaves: document 01, 'Frames'. The lines of a file and
--- the replies to them are defined in the crate lines (Stream), the reply to one line in the crate frames (Replies).
+-- What a call on a block of a file, and one at the end of a file, answers and leaves: document 01, 'Frames'. The lines of a file
+-- and the replies to them are defined in the crate lines (Stream), the reply to one line in the crate frames (Replies).
 --
 -- In this order: whether too little is lent; the replies in `out`; a block; the end of a file.
 -- Definitions only. The laws of one call are in AnswerLaws; what all calls write together is in Sessions.

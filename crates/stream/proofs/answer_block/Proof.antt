@@ -19,7 +19,8 @@ use Rattle.stream.proofs.answer_block.Statement.{statement}
 use Rattle.stream.proofs.answer_block.Tie as tie
 
 -- What is kept, once the places behind it are zeroed.
-kept-alone : (line entry kept : List ℕ) (n : ℕ) → Keeps line entry kept n → filled 515 (take n kept) kept ≡ filled 515 (take 515 line) entry
+kept-alone : (line entry kept : List ℕ) (n : ℕ) → Keeps line entry kept n
+    → filled 515 (take n kept) kept ≡ filled 515 (take 515 line) entry
 unfolding filled
 kept-alone line entry kept n k = rw (k .first, k .rest .later)
 
@@ -31,15 +32,18 @@ Contract b line block kept keptExit scratch scratchExit out outExit r =
     × ((keptExit ≡ keptLeft b (unfinished line (take (usedOf r) block)) kept)
     × ((outExit ≡ outLeft b (finished line (take (usedOf r) block)) out) × (scratchExit ≡ scratchLeft b scratch))))
 
-too-little : (b : Bool) (line block kept scratch out : List ℕ) → b ≡ true → Contract b line block kept kept scratch scratch out out (fed.Refused 1)
+too-little : (b : Bool) (line block kept scratch out : List ℕ) → b ≡ true
+    → Contract b line block kept kept scratch scratch out out (fed.Refused 1)
 unfolding usedOf fedOf keptLeft outLeft scratchLeft
 too-little b line block kept scratch out e = rw e (refl, ((λ f. absurd (true≢false f)), (refl, (refl, refl))))
 
-done : (b : Bool) (line block keptEntry kept keptExit scratchEntry scratch part outEntry out : List ℕ) (used left written : ℕ) → b ≡ false
-    → scratchSize ≤ length scratchEntry → Goes line block outEntry used → Wrote (finished line (take used block)) outEntry out written
+done : (b : Bool) (line block keptEntry kept keptExit scratchEntry scratch part outEntry out : List ℕ) (used left written : ℕ)
+    → b ≡ false → scratchSize ≤ length scratchEntry → Goes line block outEntry used
+    → Wrote (finished line (take used block)) outEntry out written
     → Keeps (unfinished line (take used block)) keptEntry kept left → Later scratchSize scratchEntry scratch
     → keptExit ≡ filled 515 (take left kept) kept → part ≡ zeros (length (midOf 0 scratchSize scratch))
-    → Contract b line block keptEntry keptExit scratchEntry (putMid 0 scratchSize scratch part) outEntry out (fed.Taken used left written)
+    → Contract b line block keptEntry keptExit scratchEntry (putMid 0 scratchSize scratch part) outEntry out
+    (fed.Taken used left written)
 unfolding usedOf fedOf keptLeft outLeft scratchLeft
 done b line block keptEntry kept keptExit scratchEntry scratch part outEntry out used left written e room g w h l f z =
     rw (e, w .count, h .count) (

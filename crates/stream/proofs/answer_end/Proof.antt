@@ -37,8 +37,8 @@ unfolding endedOf outLeft scratchLeft
 too-little b line scratch out e = rw e (refl, (refl, refl))
 
 module _ (b : Bool) (kept : List ℕ) (k : ℕ) (scratch out : List ℕ) (enough : b ≡ false) where
-  written : (scratchExit outExit : List ℕ) (n : ℕ) → Wrote (lastLine (take k kept)) out outExit n → scratchExit ≡ filled scratchSize [] scratch
-      → Contract b (take k kept) scratch scratchExit out outExit (ended.Written n)
+  written : (scratchExit outExit : List ℕ) (n : ℕ) → Wrote (lastLine (take k kept)) out outExit n
+      → scratchExit ≡ filled scratchSize [] scratch → Contract b (take k kept) scratch scratchExit out outExit (ended.Written n)
   unfolding endedOf outLeft scratchLeft
   written scratchExit outExit n w z = rw (enough, w .count) (refl, (w .replies, z))
 
@@ -49,7 +49,8 @@ module _ (b : Bool) (kept : List ℕ) (k : ℕ) (scratch out : List ℕ) (enough
       let w : Wrote (lastLine (take k kept)) out out 0 = rw h (none-written out) in
       written _ out 0 w (cleared scratchSize scratch scratch part room refl z)
 
-  one-line : (scratchExit outExit : List ℕ) (n : ℕ) → k ≤ length kept → (k ≡ 0 → ⊥) → Adds (replyOf (take (k - 0) kept)) 0 out outExit n
+  one-line : (scratchExit outExit : List ℕ) (n : ℕ) → k ≤ length kept → (k ≡ 0 → ⊥)
+      → Adds (replyOf (take (k - 0) kept)) 0 out outExit n
       → scratchExit ≡ filled scratchSize [] scratch → Contract b (take k kept) scratch scratchExit out outExit (ended.Written n)
   one-line scratchExit outExit n room h a z =
       let l : 0 < length (take k kept) = omega (arith, length-take-le k kept room) in

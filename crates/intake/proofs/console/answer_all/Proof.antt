@@ -23,7 +23,8 @@ answer-read-requires c κs = record { enough = search needs; alone = c .before .
 
 loop-again : tie.Need-loop-again Inv-loop μ-loop
 loop-again c =
-    let h = c .before .before .before .before .before .before .before .before .before .before .answer-read .ensures (not-false _ (c .if1 .left)) .holds in
+    let q = c .before .before .before .before .before .before .before .before .before .before in
+    let h = q .answer-read .ensures (not-false _ (c .if1 .left)) .holds in
     (search needs, search needs, h .alone)
 
 pub answer-all-spec : {M : Type 1} → statement M

@@ -1,4 +1,5 @@
--- `answer_bytes` goes on by what each call used, which is something, and with what it kept. The measure is what is left of the block.
+-- `answer_bytes` goes on by what each call used, which is something, and with what it kept. The measure is what is left of the
+-- block.
 use mathlib.Core.Bool.{false≢true}
 use Prim.Native.Nat.{_-_, _≤_}
 use lib.ListN.{length, take}
@@ -13,7 +14,8 @@ use Rattle.intake.proofs.console.answer_bytes.Tie as tie
 
 abbrev Inv-loop : tie.InvT-loop
 Inv-loop block kept₀ k scratch₀ out₀ left₀ at₀ kept scratch out left at =
-    (at ≤ length block) × Lent kept₀ scratch₀ out₀ kept scratch out left × Holds (unfinished (take k kept₀) (take at block)) kept left
+    (at ≤ length block) × Lent kept₀ scratch₀ out₀ kept scratch out left
+    × Holds (unfinished (take k kept₀) (take at block)) kept left
 
 abbrev μ-loop : tie.MeasureT-loop
 μ-loop block kept₀ k scratch₀ out₀ left₀ at₀ kept scratch out left at = length block - at

@@ -7,14 +7,15 @@ use Rattle.intake.proofs.console.take_rest.Tie as tie
 returns : tie.Need-returns
 returns c =
     let q = c .before .before .before .before .before .before .before in
-    end-written _ _ _ _ (q .before .before .before .before .before .before .pre .enough) _ (q .answer-end .ensures .0) _ _ (c .before .written .given .1)
-    (q .answer-end .ensures .1 .0)
+    let s = q .before .before .before .before .before .before in
+    let e = q .answer-end .ensures in
+    end-written _ _ _ _ (s .pre .enough) _ (e .0) _ _ (c .before .written .given .1) (e .1 .0)
 
 returns-2 : tie.Need-returns-2
 returns-2 c =
     let q = c .before .before .before .before .before .before in
-    absurd
-    (end-not-refused _ _ _ _ (q .before .before .before .before .before .before .pre .enough) _ (q .answer-end .ensures .0) _ (c .enum-told .given .1))
+    let s = q .before .before .before .before .before .before in
+    absurd (end-not-refused _ _ _ _ (s .pre .enough) _ (q .answer-end .ensures .0) _ (c .enum-told .given .1))
 
 pub take-rest-spec : {M : Type 1} → statement M
 take-rest-spec =
