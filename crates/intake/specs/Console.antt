@@ -6,7 +6,8 @@ use mathlib.Core.List.{List}
 use Prim.Native.Nat.{ℕ, _≤_}
 use lib.ListN.{length, take}
 use Rattle.lent.specs.Lent.{filled}
-use Rattle.lines.specs.Stream.{unfinished}
+use Rattle.lines.specs.Stream.{unfinished, repliesTo}
+use Rattle.frames.specs.Replies.{replyOf}
 use Rattle.stream.specs.Answers.{Enough}
 
 -- The first k places of `kept` are all that it holds: behind them are zeros up to 515.
@@ -24,6 +25,11 @@ pub record Holds (line kept : List ℕ) (k : ℕ) : Type 0 where
   pub count : k ≡ length (take 515 line)
   pub most : k ≤ 515
   pub alone : Alone kept k
+
+-- What is written to standard output: replies to lines, each with its byte 10, and nothing else.
+pub record Replies (bytes : List ℕ) : Type 0 where
+  pub lines : List (List ℕ)
+  pub list : bytes ≡ repliesTo replyOf lines
 
 -- A read brought some first bytes of `block`, and `kept` holds what they leave unfinished, where `line` was kept before.
 pub record ReadOn (line block kept : List ℕ) (k : ℕ) : Type 0 where

@@ -1,11 +1,12 @@
 -- The laws of what is kept between two calls; the definitions are in Console.
 --
 -- In this order: what is kept before the first call; what one call keeps; what two calls keep together; a call to which enough is
--- lent is not refused.
+-- lent is not refused; the first n bytes of `out` are replies.
 use mathlib.Core.Path.{_≡_, refl, sym, ap, _∙_}
 use mathlib.Core.Bool.{Bool, true, false, true≢false}
 use mathlib.Core.List.{List, [], _++_, append-assoc, append-nil}
 use Prim.Native.Nat.{ℕ, _+_, _-_, _≤_}
+use native.Mathlib.Nat.{sub-zero}
 use native.Mathlib.Omega.{arith}
 use lib.ListN.{length, take, drop, replicate, length-replicate, drop-of-length-le, length-take, length-drop, length-append}
 use lib.Seq.{take-all, take-add, drop-at, length-take-le}
@@ -21,7 +22,7 @@ use Rattle.stream.specs.declared.Fed.{Fed}
 use Rattle.stream.specs.declared.Fed.the-variants as fed
 use Rattle.stream.specs.declared.Ended.{Ended}
 use Rattle.stream.specs.declared.Ended.the-variants as ended
-use Rattle.intake.specs.Console.{Alone, Holds}
+use Rattle.intake.specs.Console.{Alone, Holds, Replies}
 
 -- ---- before the first call
 
@@ -144,3 +145,8 @@ module _ (kept : List ℕ) (k : ℕ) (scratch out : List ℕ) (lent : Enough (le
     end-written outExit n e o =
         let w = end-served b line out outExit n (sym e ∙ told) o in
         (wrote-fits _ out outExit n w, what-wrote _ out outExit n w)
+
+-- ---- replies
+
+pub first-replies : (n : ℕ) (out : List ℕ) (lines : List (List ℕ)) → take n out ≡ repliesTo replyOf lines → Replies (take (n - 0) out)
+first-replies n out lines e = record { lines = lines; list = rw sub-zero e }

@@ -12,7 +12,7 @@ ghost use lib.ListN.{length, take};
 ghost use Rattle.lines.specs.Stream.{finished, unfinished, lastLine, repliesTo};
 ghost use Rattle.frames.specs.Replies.{replyOf};
 ghost use Rattle.stream.specs.Answers.{Moves};
-ghost use Rattle.intake.specs.Console.{Ready, Holds, ReadOn};
+ghost use Rattle.intake.specs.Console.{Ready, Holds, Replies, ReadOn};
 
 // Whether a call that moved no bytes was only interrupted by a signal, and is to be tried again.
 fn was_interrupted(moved: isize) -> bool {
@@ -44,8 +44,10 @@ fn write_all(bytes: &[u8]) -> bool {
     true
 }
 
-// The same, with a failure told on standard error.
-fn put(bytes: &[u8]) -> bool {
+// The same for replies, with a failure told on standard error. Nothing else is written to standard output.
+fn put(bytes: &[u8]) -> bool
+    requires { ⌜ Replies (now bytes) ⌝ }
+{
     if write_all(bytes) {
         return true;
     }

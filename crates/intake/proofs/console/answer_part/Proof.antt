@@ -1,5 +1,6 @@
 -- `answer_part` writes as much of `out` as was told, and goes on in the block.
 use borrow.Author.Needs.{needs}
+use Rattle.intake.specs.ConsoleLaws.{first-replies}
 use Rattle.intake.proofs.console.answer_part.Statement.{statement}
 use Rattle.intake.proofs.console.answer_part.Tie as tie
 
@@ -7,6 +8,11 @@ part-put-end : tie.Need-part-put-end
 part-put-end c =
     let m = c .before .before .before .before .before .before .before .take-part .ensures .0 in
     search needs
+
+put-requires : tie.Need-put-requires
+put-requires c κs =
+    let q = c .before .before .before .before .before .before .before .before in
+    first-replies (q .take-part .result .written) _ _ (q .take-part .ensures .1 .1)
 
 returns : tie.Need-returns
 returns c =
@@ -21,7 +27,7 @@ answer-part-spec =
     (λ c. search needs)
     (λ c. search needs)
     part-put-end
-    (λ c κs. search needs)
+    put-requires
     (λ c. search needs)
     (λ c. search needs)
     (λ c. search needs)
