@@ -16,7 +16,7 @@ use Rattle.lines.specs.Stream.{finished, unfinished, lastLine, repliesTo}
 use Rattle.lines.specs.StreamLaws.{unfinished-append, kept-unfinished}
 use Rattle.frames.specs.Replies.{replyOf}
 use Rattle.frames.specs.ReplyLaws.{first-515}
-use Rattle.stream.specs.Answers.{little, Enough, Goes, usedOf, fedOf, keptLeft, outLeft, Moves, endedOf}
+use Rattle.stream.specs.Answers.{little, Enough, Goes, usedOf, fedOf, keptLeft, repliesLeft, Moves, endedOf}
 use Rattle.stream.specs.AnswerLaws.{enough-lent, Served, served, what-kept, what-wrote, wrote-fits, end-served, moves-on}
 use Rattle.stream.specs.declared.Fed.{Fed}
 use Rattle.stream.specs.declared.Fed.the-variants as fed
@@ -122,7 +122,7 @@ module _ (kept : List ℕ) (k : ℕ) (scratch out : List ℕ) (lent : Enough (le
 
     pub block-taken : (keptExit outExit : List ℕ) (used left n : ℕ) → r ≡ fed.Taken used left n
         → (b ≡ false → Goes line block out (usedOf r)) → keptExit ≡ keptLeft b (unfinished line (take (usedOf r) block)) kept
-        → outExit ≡ outLeft b (finished line (take (usedOf r) block)) out
+        → outExit ≡ repliesLeft b (finished line (take (usedOf r) block)) out
         → Moves block outExit used left n
         × (Holds (unfinished line (take used block)) keptExit left
         × (take n outExit ≡ repliesTo replyOf (finished line (take used block))))
@@ -140,7 +140,7 @@ module _ (kept : List ℕ) (k : ℕ) (scratch out : List ℕ) (lent : Enough (le
     pub end-not-refused : (q : ℕ) → r ≡ ended.Refused q → ⊥
     end-not-refused q e = end-refused b line q (enough-lent kept k scratch out lent) (sym e ∙ told)
 
-    pub end-written : (outExit : List ℕ) (n : ℕ) → r ≡ ended.Written n → outExit ≡ outLeft b (lastLine line) out
+    pub end-written : (outExit : List ℕ) (n : ℕ) → r ≡ ended.Written n → outExit ≡ repliesLeft b (lastLine line) out
         → (n ≤ length outExit) × (take n outExit ≡ repliesTo replyOf (lastLine line))
     end-written outExit n e o =
         let w = end-served b line out outExit n (sym e ∙ told) o in
@@ -148,5 +148,6 @@ module _ (kept : List ℕ) (k : ℕ) (scratch out : List ℕ) (lent : Enough (le
 
 -- ---- replies
 
-pub first-replies : (n : ℕ) (out : List ℕ) (lines : List (List ℕ)) → take n out ≡ repliesTo replyOf lines → Replies (take (n - 0) out)
+pub first-replies : (n : ℕ) (out : List ℕ) (lines : List (List ℕ)) → take n out ≡ repliesTo replyOf lines
+    → Replies (take (n - 0) out)
 first-replies n out lines e = record { lines = lines; list = rw sub-zero e }

@@ -14,7 +14,7 @@ use Rattle.lent.specs.Lent.{filled, scratchSize, littleScratch, tooLittle}
 use Rattle.lent.specs.LentLaws.{filled-first, enough}
 use Rattle.lines.specs.Stream.{finished, unfinished, lastLine, repliesTo}
 use Rattle.frames.specs.Replies.{replyOf}
-use Rattle.stream.specs.Answers.{little, Enough, behind, outLeft, Goes, fedOf, keptLeft, Moves, endedOf}
+use Rattle.stream.specs.Answers.{little, Enough, behind, repliesLeft, Goes, fedOf, keptLeft, Moves, endedOf}
 use Rattle.stream.specs.Pieces.{Wrote}
 use Rattle.stream.specs.declared.Fed.the-variants as fed
 use Rattle.stream.specs.declared.Ended.the-variants as ended
@@ -74,9 +74,9 @@ pub record Served (line block kept keptExit out outExit : List ℕ) (used left n
 
 pub served : (b : Bool) (line block kept keptExit out outExit : List ℕ) (used left n : ℕ)
     → fed.Taken used left n ≡ fedOf b line block used → keptExit ≡ keptLeft b (unfinished line (take used block)) kept
-    → outExit ≡ outLeft b (finished line (take used block)) out
+    → outExit ≡ repliesLeft b (finished line (take used block)) out
     → Served line block kept keptExit out outExit used left n
-unfolding fedOf keptLeft outLeft
+unfolding fedOf keptLeft repliesLeft
 served true line block kept keptExit out outExit used left n e k o =
     let z : _≡_ {A = ℕ} 0 1 = cc in
     absurd (omega arith)
@@ -91,8 +91,8 @@ what-kept line block kept keptExit out outExit used left n s =
 
 -- At the end of a file.
 pub end-served : (b : Bool) (line out outExit : List ℕ) (n : ℕ) → ended.Written n ≡ endedOf b line
-    → outExit ≡ outLeft b (lastLine line) out → Wrote (lastLine line) out outExit n
-unfolding endedOf outLeft
+    → outExit ≡ repliesLeft b (lastLine line) out → Wrote (lastLine line) out outExit n
+unfolding endedOf repliesLeft
 end-served true line out outExit n e o =
     let z : _≡_ {A = ℕ} 0 1 = cc in
     absurd (omega arith)

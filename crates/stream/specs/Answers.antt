@@ -41,9 +41,10 @@ unfoldable pub behind : List (List ℕ) → List ℕ → List ℕ
 behind [] entry = entry
 behind (line ∷ ls) entry = behind ls (behindOne (replyOf line) entry)
 
--- `out` at exit: untouched where too little is lent, else the replies to lines, each with its byte 10.
-unfoldable pub outLeft : Bool → List (List ℕ) → List ℕ → List ℕ
-outLeft little lines entry = cond little entry (repliesTo replyOf lines ++ behind lines entry)
+-- `out` at exit: untouched where too little is lent, else the replies to lines, each with its byte 10, and what that leaves behind
+-- them.
+unfoldable pub repliesLeft : Bool → List (List ℕ) → List ℕ → List ℕ
+repliesLeft little lines entry = cond little entry (repliesTo replyOf lines ++ behind lines entry)
 
 -- ---- a block
 
@@ -54,6 +55,7 @@ pub record Goes (line block out : List ℕ) (used : ℕ) : Type 0 where
   pub within : used ≤ length block
   pub stops : used < length block → length out < length (repliesTo replyOf (finished line (take used block))) + 515
 
+-- How much of the block is used, by the answer: nothing where the call is refused.
 unfoldable pub usedOf : Fed → ℕ
 usedOf (fed.Taken used left written) = used
 usedOf (fed.Refused r) = 0

@@ -11,7 +11,7 @@ use Rattle.lines.specs.Stream.{finished, unfinished, lastLine, linesOf, replies
 use Rattle.lines.specs.StreamLaws.{replies-lines, answers-lines}
 use Rattle.frames.specs.Replies.{replyOf}
 use Rattle.frames.specs.ReplyLaws.{first-515, reply-unbroken}
-use Rattle.stream.specs.Answers.{little, outLeft, fedOf, keptLeft, endedOf}
+use Rattle.stream.specs.Answers.{little, repliesLeft, fedOf, keptLeft, endedOf}
 use Rattle.stream.specs.AnswerLaws.{what-wrote, served, what-kept, end-served}
 use Rattle.stream.specs.declared.Fed.the-variants as fed
 use Rattle.stream.specs.declared.Ended.the-variants as ended
@@ -23,13 +23,13 @@ use Rattle.stream.specs.declared.Ended.the-variants as ended
 pub data Session : List ℕ → List (List ℕ) → List ℕ → Type 0 where
   end-call : (kept : List ℕ) (k : ℕ) (scratch out outExit : List ℕ) (n : ℕ)
       → ended.Written n ≡ endedOf (little kept k scratch out) (take k kept)
-      → outExit ≡ outLeft (little kept k scratch out) (lastLine (take k kept)) out
+      → outExit ≡ repliesLeft (little kept k scratch out) (lastLine (take k kept)) out
       → Session (take k kept) [] (take n outExit)
   block-call : (block kept : List ℕ) (k : ℕ) (scratch out keptExit outExit : List ℕ) (used left n : ℕ)
       (pieces : List (List ℕ)) (written : List ℕ)
       → fed.Taken used left n ≡ fedOf (little kept k scratch out) (take k kept) block used
       → keptExit ≡ keptLeft (little kept k scratch out) (unfinished (take k kept) (take used block)) kept
-      → outExit ≡ outLeft (little kept k scratch out) (finished (take k kept) (take used block)) out
+      → outExit ≡ repliesLeft (little kept k scratch out) (finished (take k kept) (take used block)) out
       → Session (take left keptExit) pieces written
       → Session (take k kept) (take used block ∷ pieces) (take n outExit ++ written)
 

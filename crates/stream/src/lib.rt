@@ -10,7 +10,7 @@ ghost use lib.ListN.{length, take};
 ghost use Rattle.lent.specs.Lent.{filled, scratchSize, scratchLeft};
 ghost use Rattle.lines.specs.Stream.{finished, unfinished, lastLine};
 ghost use Rattle.frames.specs.Replies.{replyOf};
-ghost use Rattle.stream.specs.Answers.{little, Enough, Goes, usedOf, fedOf, keptLeft, outLeft, endedOf};
+ghost use Rattle.stream.specs.Answers.{little, Enough, Goes, usedOf, fedOf, keptLeft, repliesLeft, endedOf};
 ghost use Rattle.stream.specs.Pieces.{LineEnd, Later, Keeps, Adds, Wrote, digitsTold};
 
 // What a block gets: how much of it was used, how many characters are kept of the line that it leaves unfinished, and how many
@@ -212,7 +212,7 @@ pub fn answer_block(
         ≡ keptLeft (little (now (kept .entry)) k (now (scratch .entry)) (now (out .entry)))
         (unfinished (take k (now (kept .entry))) (take (usedOf r) (now (block .entry)))) (now (kept .entry)) ⌝ }
     ensures out { λ r. ⌜ now (out .exit)
-        ≡ outLeft (little (now (kept .entry)) k (now (scratch .entry)) (now (out .entry)))
+        ≡ repliesLeft (little (now (kept .entry)) k (now (scratch .entry)) (now (out .entry)))
         (finished (take k (now (kept .entry))) (take (usedOf r) (now (block .entry)))) (now (out .entry)) ⌝ }
     ensures scratch { λ _. ⌜ now (scratch .exit)
         ≡ scratchLeft (little (now (kept .entry)) k (now (scratch .entry)) (now (out .entry))) (now (scratch .entry)) ⌝ }
@@ -236,8 +236,8 @@ pub fn answer_end(kept: &[u8], k: usize, scratch: &mut [u64], out: &mut [u8]) ->
     ensures answer { λ r. ⌜ r
         ≡ endedOf (little (now (kept .entry)) k (now (scratch .entry)) (now (out .entry))) (take k (now (kept .entry))) ⌝ }
     ensures out { λ _. ⌜ now (out .exit)
-        ≡ outLeft (little (now (kept .entry)) k (now (scratch .entry)) (now (out .entry))) (lastLine (take k (now (kept .entry))))
-        (now (out .entry)) ⌝ }
+        ≡ repliesLeft (little (now (kept .entry)) k (now (scratch .entry)) (now (out .entry)))
+        (lastLine (take k (now (kept .entry)))) (now (out .entry)) ⌝ }
     ensures scratch { λ _. ⌜ now (scratch .exit)
         ≡ scratchLeft (little (now (kept .entry)) k (now (scratch .entry)) (now (out .entry))) (now (scratch .entry)) ⌝ }
 {

@@ -10,7 +10,7 @@ use lib.ListN.{length, take}
 use Rattle.lent.specs.LentLaws.{cleared}
 use Rattle.lent.specs.Lent.{zeros, filled, scratchSize, scratchLeft}
 use Rattle.lines.specs.Stream.{finished, unfinished}
-use Rattle.stream.specs.Answers.{little, Goes, usedOf, fedOf, keptLeft, outLeft}
+use Rattle.stream.specs.Answers.{little, Goes, usedOf, fedOf, keptLeft, repliesLeft}
 use Rattle.stream.specs.AnswerLaws.{lent-enough}
 use Rattle.stream.specs.Pieces.{Later, Keeps, Wrote}
 use Rattle.stream.specs.declared.Fed.{Fed}
@@ -30,11 +30,11 @@ Contract b line block kept keptExit scratch scratchExit out outExit r =
     (r ≡ fedOf b line block (usedOf r))
     × ((b ≡ false → Goes line block out (usedOf r))
     × ((keptExit ≡ keptLeft b (unfinished line (take (usedOf r) block)) kept)
-    × ((outExit ≡ outLeft b (finished line (take (usedOf r) block)) out) × (scratchExit ≡ scratchLeft b scratch))))
+    × ((outExit ≡ repliesLeft b (finished line (take (usedOf r) block)) out) × (scratchExit ≡ scratchLeft b scratch))))
 
 too-little : (b : Bool) (line block kept scratch out : List ℕ) → b ≡ true
     → Contract b line block kept kept scratch scratch out out (fed.Refused 1)
-unfolding usedOf fedOf keptLeft outLeft scratchLeft
+unfolding usedOf fedOf keptLeft repliesLeft scratchLeft
 too-little b line block kept scratch out e = rw e (refl, ((λ f. absurd (true≢false f)), (refl, (refl, refl))))
 
 done : (b : Bool) (line block keptEntry kept keptExit scratchEntry scratch part outEntry out : List ℕ) (used left written : ℕ)
@@ -44,7 +44,7 @@ done : (b : Bool) (line block keptEntry kept keptExit scratchEntry scratch part 
     → keptExit ≡ filled 515 (take left kept) kept → part ≡ zeros (length (midOf 0 scratchSize scratch))
     → Contract b line block keptEntry keptExit scratchEntry (putMid 0 scratchSize scratch part) outEntry out
     (fed.Taken used left written)
-unfolding usedOf fedOf keptLeft outLeft scratchLeft
+unfolding usedOf fedOf keptLeft repliesLeft scratchLeft
 done b line block keptEntry kept keptExit scratchEntry scratch part outEntry out used left written e room g w h l f z =
     rw (e, w .count, h .count) (
       refl,

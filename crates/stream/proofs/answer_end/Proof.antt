@@ -13,7 +13,7 @@ use Rattle.lent.specs.LentLaws.{cleared}
 use Rattle.lent.specs.Lent.{zeros, filled, scratchSize, scratchLeft}
 use Rattle.lines.specs.Stream.{lastLine}
 use Rattle.frames.specs.Replies.{replyOf}
-use Rattle.stream.specs.Answers.{outLeft, endedOf}
+use Rattle.stream.specs.Answers.{repliesLeft, endedOf}
 use Rattle.stream.specs.AnswerLaws.{lent-enough}
 use Rattle.stream.specs.Pieces.{Adds, Wrote}
 use Rattle.stream.specs.declared.Ended.{Ended}
@@ -30,16 +30,16 @@ line-there (c ∷ line) h = refl
 -- What the contract says, of a call that answers r.
 abbrev Contract : Bool → List ℕ → List ℕ → List ℕ → List ℕ → List ℕ → Ended → Type 0
 Contract b line scratch scratchExit out outExit r =
-    (r ≡ endedOf b line) × ((outExit ≡ outLeft b (lastLine line) out) × (scratchExit ≡ scratchLeft b scratch))
+    (r ≡ endedOf b line) × ((outExit ≡ repliesLeft b (lastLine line) out) × (scratchExit ≡ scratchLeft b scratch))
 
 too-little : (b : Bool) (line scratch out : List ℕ) → b ≡ true → Contract b line scratch scratch out out (ended.Refused 1)
-unfolding endedOf outLeft scratchLeft
+unfolding endedOf repliesLeft scratchLeft
 too-little b line scratch out e = rw e (refl, (refl, refl))
 
 module _ (b : Bool) (kept : List ℕ) (k : ℕ) (scratch out : List ℕ) (enough : b ≡ false) where
   written : (scratchExit outExit : List ℕ) (n : ℕ) → Wrote (lastLine (take k kept)) out outExit n
       → scratchExit ≡ filled scratchSize [] scratch → Contract b (take k kept) scratch scratchExit out outExit (ended.Written n)
-  unfolding endedOf outLeft scratchLeft
+  unfolding endedOf repliesLeft scratchLeft
   written scratchExit outExit n w z = rw (enough, w .count) (refl, (w .replies, z))
 
   no-line : (part : List ℕ) → scratchSize ≤ length scratch → k ≡ 0 → part ≡ zeros (length (midOf 0 scratchSize scratch))
