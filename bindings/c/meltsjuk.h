@@ -32,7 +32,7 @@
 #define MELTSJUK_REPLY 514    /* the least bytes for a reply */
 #define MELTSJUK_STACK 32768  /* bytes of stack, enough for a thread that makes any of the calls */
 
-/* What meltsjuk_count and meltsjuk_best answer. */
+/* What meltsjuk_count and meltsjuk_best answer, and MELTSJUK_LITTLE_LENT of meltsjuk_reply too. */
 #define MELTSJUK_SERVED 0      /* the answer stands where the caller asked for it */
 #define MELTSJUK_LITTLE_LENT 1 /* too little is lent, and nothing was written */
 #define MELTSJUK_NONE_FITS 5   /* no chain is within the limits */
@@ -46,7 +46,7 @@ extern "C" {
  * Lent: the line; the scratch, MELTSJUK_SCRATCH numbers or more; `out`, MELTSJUK_REPLY bytes or more.
  * Answers how many digits the reply has, at least 2 and at most 300. They stand in `out`, then zeros up to MELTSJUK_REPLY, so that
  * the digits are a C string, and later bytes are as they were. A refused line's reply is the two digits of its number, 02 to 0B.
- * Answers 0 where the scratch or `out` is too short; then nothing was written. */
+ * Answers MELTSJUK_LITTLE_LENT, which is no length, where the scratch or `out` is too short; then nothing was written. */
 uint64_t meltsjuk_reply(const uint8_t *line, size_t line_length, uint64_t *scratch, size_t scratch_length, uint8_t *out,
                         size_t out_length);
 

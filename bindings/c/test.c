@@ -58,8 +58,10 @@ static void *too_little(void *unused)
     scratch[0] = 7;
     places[0] = 7;
     out[0] = 7;
-    must(meltsjuk_reply(line, 18, scratch, MELTSJUK_SCRATCH - 1, out, MELTSJUK_REPLY) == 0, "a reply with a short scratch");
-    must(meltsjuk_reply(line, 18, scratch, MELTSJUK_SCRATCH, out, MELTSJUK_REPLY - 1) == 0, "a reply with few bytes");
+    must(meltsjuk_reply(line, 18, scratch, MELTSJUK_SCRATCH - 1, out, MELTSJUK_REPLY) == MELTSJUK_LITTLE_LENT,
+         "a reply with a short scratch");
+    must(meltsjuk_reply(line, 18, scratch, MELTSJUK_SCRATCH, out, MELTSJUK_REPLY - 1) == MELTSJUK_LITTLE_LENT,
+         "a reply with few bytes");
     must(meltsjuk_count(19, scratch, MELTSJUK_SCRATCH - 1, &count) == MELTSJUK_LITTLE_LENT, "a count with a short scratch");
     must(meltsjuk_best(19, 64, 63, 40, 4, 7, 9, scratch, MELTSJUK_SCRATCH - 1, places, MELTSJUK_PLACES, &position, &k, &price)
              == MELTSJUK_LITTLE_LENT,
@@ -154,7 +156,7 @@ static void reply_by_call(struct request *r)
 static void reply_by_line(struct request *r)
 {
     on_small_stack(call_reply, r);
-    must(r->digits >= 2, "a line gets no reply");
+    must(r->digits != MELTSJUK_LITTLE_LENT, "a line gets no reply");
     fwrite(out, 1, (size_t)r->digits, stdout);
     putchar('\n');
 }

@@ -127,6 +127,7 @@ impl Terminal {
                 self.reply.len(),
             )
         };
+        assert!(digits >= 2, "a scratch of {SCRATCH} numbers and {REPLY} bytes are enough");
         std::str::from_utf8(&self.reply[..digits as usize]).expect("a reply is digits")
     }
 

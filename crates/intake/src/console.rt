@@ -3,9 +3,16 @@
 // the next read, so that a person at a pipe gets a reply to each line. Memory does not grow with the input.
 use libc::STDIN_FILENO;
 use libc::STDOUT_FILENO;
+use stream::Ended;
+use stream::Fed;
+ghost use mathlib.Core.Path.{_≡_};
+ghost use mathlib.Core.Bool.{true};
 ghost use Prim.Native.Nat.{_≤_, _<_};
-ghost use lib.ListN.{length};
-ghost use Rattle.stream.specs.Answers.{Enough};
+ghost use lib.ListN.{length, take};
+ghost use Rattle.lines.specs.Stream.{finished, unfinished, lastLine, repliesTo};
+ghost use Rattle.frames.specs.Replies.{replyOf};
+ghost use Rattle.stream.specs.Answers.{Moves};
+ghost use Rattle.intake.specs.Console.{Ready, Holds, Replies, ReadOn};
 
 // Whether a call that moved no bytes was only interrupted by a signal, and is to be tried again.
 fn was_interrupted(moved: isize) -> bool {
@@ -37,13 +44,49 @@ fn write_all(bytes: &[u8]) -> bool {
     true
 }
 
-// The same, with a failure told on standard error.
-fn put(bytes: &[u8]) -> bool {
+// The same for replies, with a failure told on standard error. Nothing else is written to standard output.
+fn put(bytes: &[u8]) -> bool
+    requires { ⌜ Replies (now bytes) ⌝ }
+{
     if write_all(bytes) {
         return true;
     }
     os::fail(b"standard output");
     false
+}
+
+// How much of a block one call used, how many characters it kept, and how many bytes of replies it wrote to memory.
+struct Taken {
+    used: usize,
+    kept: usize,
+    written: usize,
+}
+
+// Answers as much of a block as the room for replies takes. Enough is lent, so that no call is refused.
+fn take_part(block: &[u8], kept: &mut [u8], k: usize, scratch: &mut [u64], out: &mut [u8]) -> Taken
+    requires { ⌜ Ready (now kept) k (now scratch) (now out) ⌝ }
+    ensures moves { λ r. ⌜ Moves (now (block .entry)) (now (out .exit)) (r .used) (r .kept) (r .written) ⌝ }
+    ensures kept { λ r. ⌜ Holds (unfinished (take k (now (kept .entry))) (take (r .used) (now (block .entry)))) (now (kept .exit))
+        (r .kept) ⌝ }
+    ensures out { λ r. ⌜ take (r .written) (now (out .exit))
+        ≡ repliesTo replyOf (finished (take k (now (kept .entry))) (take (r .used) (now (block .entry)))) ⌝ }
+{
+    match stream::answer_block(block, kept, k, scratch, out) {
+        Fed::Taken {
+            used,
+            kept: left,
+            written,
+        } => Taken {
+            used,
+            kept: left,
+            written,
+        },
+        Fed::Refused(_) => Taken {
+            used: 0,
+            kept: 0,
+            written: 0,
+        },
+    }
 }
 
 // How much of a block one call answered, how many characters it kept, and whether its replies were written.
@@ -55,15 +98,16 @@ struct Part {
 
 // Answers as much of a block as the room for replies takes, and writes the replies.
 fn answer_part(block: &[u8], kept: &mut [u8], k: usize, scratch: &mut [u64], out: &mut [u8]) -> Part
-    requires { ⌜ Enough (length (now kept)) k (length (now scratch)) (length (now out)) ⌝ }
-    ensures { λ r. ⌜ (r .used ≤ length (now (block .entry))) × (r .kept ≤ 515) ⌝ }
-    ensures { λ r. ⌜ (0 < length (now (block .entry)) → 0 < r .used) ⌝ }
+    requires { ⌜ Ready (now kept) k (now scratch) (now out) ⌝ }
+    ensures moves { λ r. ⌜ (r .used ≤ length (now (block .entry))) × (0 < length (now (block .entry)) → 0 < r .used) ⌝ }
+    ensures kept { λ r. ⌜ Holds (unfinished (take k (now (kept .entry))) (take (r .used) (now (block .entry)))) (now (kept .exit))
+        (r .kept) ⌝ }
 {
-    let fed = stream::answer_block(block, kept, k, scratch, out);
-    let written = fed.written;
+    let taken = take_part(block, kept, k, scratch, out);
+    let written = taken.written;
     Part {
-        used: fed.used,
-        kept: fed.kept,
+        used: taken.used,
+        kept: taken.kept,
         is_put: put(&out[0..written]),
     }
 }
@@ -71,10 +115,10 @@ fn answer_part(block: &[u8], kept: &mut [u8], k: usize, scratch: &mut [u64], out
 // How many characters are kept of an unfinished line, and whether there is more to read.
 struct Answer {
     kept: usize,
-    goes_on: bool,
+    more: bool,
 }
 
-// Answers a block, part by part.
+// Answers a block, part by part. Where there is more to read, what the whole block leaves unfinished is kept.
 fn answer_bytes(
     block: &[u8],
     kept: &mut [u8],
@@ -82,8 +126,9 @@ fn answer_bytes(
     scratch: &mut [u64],
     out: &mut [u8],
 ) -> Answer
-    requires { ⌜ Enough (length (now kept)) k (length (now scratch)) (length (now out)) ⌝ }
-    ensures { λ r. ⌜ r .kept ≤ 515 ⌝ }
+    requires { ⌜ Ready (now kept) k (now scratch) (now out) ⌝ }
+    ensures { λ r. ⌜ (r .more ≡ true
+        → Holds (unfinished (take k (now (kept .entry))) (now (block .entry))) (now (kept .exit)) (r .kept)) ⌝ }
 {
     let mut left = k;
     let mut at = 0;
@@ -94,25 +139,38 @@ fn answer_bytes(
         if !part.is_put {
             return Answer {
                 kept: left,
-                goes_on: false,
+                more: false,
             };
         }
     }
     Answer {
         kept: left,
-        goes_on: true,
+        more: true,
     }
 }
 
-// Answers what is kept at the end of the input.
-fn answer_rest(kept: &[u8], k: usize, scratch: &mut [u64], out: &mut [u8])
-    requires { ⌜ Enough (length (now kept)) k (length (now scratch)) (length (now out)) ⌝ }
+// Answers what is kept at the end of the input, and tells how many bytes of a reply it wrote to memory.
+fn take_rest(kept: &[u8], k: usize, scratch: &mut [u64], out: &mut [u8]) -> usize
+    requires { ⌜ Ready (now kept) k (now scratch) (now out) ⌝ }
+    ensures { λ r. ⌜ (r ≤ length (now (out .exit)))
+        × (take r (now (out .exit)) ≡ repliesTo replyOf (lastLine (take k (now (kept .entry))))) ⌝ }
 {
-    let written = stream::answer_end(kept, k, scratch, out);
+    match stream::answer_end(kept, k, scratch, out) {
+        Ended::Written(written) => written,
+        Ended::Refused(_) => 0,
+    }
+}
+
+// The same, and writes the reply.
+fn answer_rest(kept: &[u8], k: usize, scratch: &mut [u64], out: &mut [u8])
+    requires { ⌜ Ready (now kept) k (now scratch) (now out) ⌝ }
+{
+    let written = take_rest(kept, k, scratch, out);
     put(&out[0..written]);
 }
 
-// Reads once and answers what came. A read that was interrupted brings nothing, and the next one tries again.
+// Reads once and answers what came. A read that was interrupted brings nothing, and the next one tries again. Where there is more
+// to read, what the bytes that came leave unfinished is kept.
 fn answer_read(
     block: &mut [u8],
     kept: &mut [u8],
@@ -120,15 +178,15 @@ fn answer_read(
     scratch: &mut [u64],
     out: &mut [u8],
 ) -> Answer
-    requires { ⌜ Enough (length (now kept)) k (length (now scratch)) (length (now out)) ⌝ }
-    ensures { λ r. ⌜ r .kept ≤ 515 ⌝ }
+    requires { ⌜ Ready (now kept) k (now scratch) (now out) ⌝ }
+    ensures { λ r. ⌜ (r .more ≡ true → ReadOn (take k (now (kept .entry))) (now (block .exit)) (now (kept .exit)) (r .kept)) ⌝ }
 {
     let got = libc::read(STDIN_FILENO, block);
     if got == 0 {
         answer_rest(kept, k, scratch, out);
         return Answer {
             kept: 0,
-            goes_on: false,
+            more: false,
         };
     }
     if got < 0 {
@@ -136,7 +194,7 @@ fn answer_read(
             os::fail(b"standard input");
             return Answer {
                 kept: 0,
-                goes_on: false,
+                more: false,
             };
         }
     }
@@ -146,14 +204,14 @@ fn answer_read(
 
 // Answers all of the input in lent memory.
 fn answer_all(block: &mut [u8], kept: &mut [u8], scratch: &mut [u64], out: &mut [u8])
-    requires { ⌜ Enough (length (now kept)) 0 (length (now scratch)) (length (now out)) ⌝ }
+    requires { ⌜ Ready (now kept) 0 (now scratch) (now out) ⌝ }
 {
     let mut k = 0;
     let mut turns = u64::MAX;
     while turns > 0 {
         turns -= 1;
         let answer = answer_read(block, kept, k, scratch, out);
-        if !answer.goes_on {
+        if !answer.more {
             return;
         }
         k = answer.kept;

@@ -1,6 +1,6 @@
 -- What the functions for C and Rust answer: a service's answer, case by case, as a number and as numbers put where the caller asks.
--- A refusal leaves those as they were. Document 01, 'What a refused line or call gets', has the refusals' numbers; 0 says that the
--- call was served.
+-- A refusal leaves those as they were. Document 01, 'What a refused line or call gets', has the refusals' numbers; of the count and
+-- the best chain 0 says that the call was served.
 --
 -- In this order: the reply to a line, the count, the best chain. Definitions only.
 use mathlib.Core.Bool.{Bool, true, false}
@@ -17,10 +17,11 @@ use Rattle.frames.specs.Replies.{replyOf}
 
 -- ---- the reply to a line
 
--- How many digits of the reply to a line are left for the caller: none where too little is lent.
-unfoldable pub digitsLeft : Bool → List ℕ → ℕ
-digitsLeft true line = 0
-digitsLeft false line = length (replyOf line)
+-- How many digits the reply to a line has, or refusal 1 where too little is lent. A reply has at least two digits (AnswerLaws), so
+-- 1 is no length.
+unfoldable pub digitsOrRefusal : Bool → List ℕ → ℕ
+digitsOrRefusal true line = 1
+digitsOrRefusal false line = length (replyOf line)
 
 -- ---- the count
 

@@ -12,14 +12,14 @@ ghost use Rattle.lent.specs.Lent.{tooLittle, scratchLeft, littleScratch};
 ghost use Rattle.ranking.specs.Services.{placesLeft};
 ghost use Rattle.counting.specs.TableCount.{countedOf};
 ghost use Rattle.frames.specs.Replies.{outLeft};
-ghost use Rattle.meltsjuk.specs.Answers.{digitsLeft, countStatus, countOr};
+ghost use Rattle.meltsjuk.specs.Answers.{digitsOrRefusal, countStatus, countOr};
 ghost use Rattle.meltsjuk.specs.Answers.{limitsOf, pricesOf, bestAsked, bestStatus, positionOr, partsOr, priceOr};
 
-// Replying to one line, without its byte 10, as `frames::reply` does. Answers how many digits of the reply stand in `out`, two
-// where the line is refused; 0 where too little is lent, and nothing is touched.
+// Replying to one line, without its byte 10, as `frames::reply` does. Answers how many digits the reply in `out` has, two where the
+// line is refused; or 1, which is no length, where too little is lent, and nothing is touched.
 #[no_mangle]
 pub extern "C" fn meltsjuk_reply(line: &[u8], scratch: &mut [u64], out: &mut [u8]) -> u64
-    ensures answer { λ r. ⌜ r ≡ digitsLeft (tooLittle 514 (now (scratch .entry)) (now (out .entry))) (now (line .entry)) ⌝ }
+    ensures answer { λ r. ⌜ r ≡ digitsOrRefusal (tooLittle 514 (now (scratch .entry)) (now (out .entry))) (now (line .entry)) ⌝ }
     ensures out { λ _. ⌜ now (out .exit)
         ≡ outLeft (tooLittle 514 (now (scratch .entry)) (now (out .entry))) (now (line .entry)) (now (out .entry)) ⌝ }
     ensures scratch { λ _. ⌜ now (scratch .exit)
@@ -27,7 +27,7 @@ pub extern "C" fn meltsjuk_reply(line: &[u8], scratch: &mut [u64], out: &mut [u8
 {
     match frames::reply(line, scratch, out) {
         Replied::Digits(digits) => digits,
-        Replied::Refused(number) => if number == 1 { 0 } else { 2 },
+        Replied::Refused(number) => if number == 1 { 1 } else { 2 },
     }
 }
 

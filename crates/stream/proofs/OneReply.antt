@@ -1,7 +1,7 @@
 -- One reply and its byte 10, written from a place of `out` on.
 --
--- In this order: what `frames::reply` gives where enough is lent; the part of `out` that it was lent, back in its place with byte 10 behind
--- the digits.
+-- In this order: what `frames::reply` gives where enough is lent; the part of `out` that it was lent, back in its place with byte
+-- 10 behind the digits.
 use mathlib.Core.Path.{_≡_, refl, sym, ap, _∙_}
 use mathlib.Core.Bool.{false}
 use mathlib.Core.List.{List, [], _∷_, _++_}
@@ -46,7 +46,8 @@ module _ (line scratch part : List ℕ) (h : scratchSize ≤ length scratch) (k 
 
 -- ---- the part back in its place
 
-store-behind : (p part : List ℕ) (n x : ℕ) → n < length part → set (p ++ part) (length p + n) x ≡ p ++ (take n part ++ (x ∷ drop (n + 1) part))
+store-behind : (p part : List ℕ) (n x : ℕ) → n < length part
+    → set (p ++ part) (length p + n) x ≡ p ++ (take n part ++ (x ∷ drop (n + 1) part))
 store-behind [] part n x h = rw (zero-add, add-one) (set-split part n x h)
 store-behind (y ∷ p) part n x h = rw suc-add (ap (λ (l : List ℕ). y ∷ l) (store-behind p part n x h))
 
@@ -60,7 +61,9 @@ module _ (line : List ℕ) (at : ℕ) (out part : List ℕ) (n : ℕ) (room : at
 
   length-part : length part ≡ length out - at
   length-part =
-      let m : length (midOf at (length out - at) out) ≡ length out - at = rw (part-lent at out (omega arith)) (length-drop at out) in
+      let m : length (midOf at (length out - at) out) ≡ length out - at =
+      rw (part-lent at out (omega arith)) (length-drop at out)
+      in
       rw e (length-filled 514 (replyOf line) (midOf at (length out - at) out) (reply-short line) (omega arith) ∙ m)
 
   pub room-for-end : n < length part

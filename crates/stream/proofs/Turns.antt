@@ -1,4 +1,5 @@
--- The loop that answers the lines of a block: its invariant, and its laws where no line is answered, where one more is, and at its two ends.
+-- The loop that answers the lines of a block: its invariant, and its laws where no line is answered, where one more is, and at its
+-- two ends.
 --
 -- In this order: lists; the invariant; the start; a line more; the ends.
 use mathlib.Core.Path.{_≡_, refl, sym, ap, _∙_}
@@ -11,11 +12,12 @@ use lib.Seq.{length-take-le, take-all, take-add, take-suc, take-at, drop-at}
 use Rattle.lent.specs.LentLaws.{length-zeros, length-filled}
 use Rattle.lent.specs.Lent.{filled, zeros, scratchSize}
 use Rattle.lines.specs.Stream.{finished, unfinished, repliesTo}
-use Rattle.lines.specs.StreamLaws.{finished-append, unfinished-append, finished-stretch, unfinished-stretch, finished-line, unfinished-line, replies-append, take-first}
+use Rattle.lines.specs.StreamLaws.{finished-append, finished-stretch, finished-line, replies-append, take-first}
+use Rattle.lines.specs.StreamLaws.{unfinished-append, unfinished-stretch, unfinished-line}
 use Rattle.frames.specs.Replies.{replyOf}
 use Rattle.frames.specs.ReplyLaws.{first-515}
-use Rattle.stream.specs.Answers.{Enough, behind, behindOne, Wrote, Goes}
-use Rattle.stream.specs.Pieces.{piece, LineEnd, Later, Keeps, Adds}
+use Rattle.stream.specs.Answers.{Enough, behind, behindOne, Goes}
+use Rattle.stream.specs.Pieces.{piece, LineEnd, Later, Keeps, Adds, Wrote}
 
 -- ---- lists
 
@@ -24,7 +26,8 @@ up-to-end : (block : List ℕ) (at end : ℕ) → at ≤ end → end < length bl
     → take (end + 1) block ≡ take at block ++ (piece at end block ++ (10 ∷ []))
 up-to-end block at end h l e =
     let k : end ≡ at + (end - at) = omega arith in
-    rw (add-one, take-suc block end 0 l, e) (ap (λ (n : ℕ). take n block ++ (10 ∷ [])) k ∙ rw (take-add at (end - at) block, append-assoc))
+    rw (add-one, take-suc block end 0 l, e)
+    (ap (λ (n : ℕ). take n block ++ (10 ∷ [])) k ∙ rw (take-add at (end - at) block, append-assoc))
 
 -- The rest of a block.
 rest-of : (block : List ℕ) (at : ℕ) → piece at (length block) block ≡ drop at block
@@ -33,15 +36,18 @@ rest-of block at = take-all (length block - at) (drop at block) (omega (arith, l
 pub later-filled : (size : ℕ) (entry : List ℕ) → size ≤ length entry → Later size entry (filled size [] entry)
 unfolding filled
 later-filled size entry h =
-    record { later = drop-at (zeros (size - 0)) (drop size entry) size (omega (arith, length-zeros (size - 0))); same = length-filled size [] entry (omega arith) h }
+    record {
+      later = drop-at (zeros (size - 0)) (drop size entry) size (omega (arith, length-zeros (size - 0)));
+      same = length-filled size [] entry (omega arith) h;
+    }
 
 pub later-twice : (size : ℕ) (a b c : List ℕ) → Later size a b → Later size b c → Later size a c
 later-twice size a b c x y = record { later = y .later ∙ x .later; same = y .same ∙ x .same }
 
 -- ---- the invariant
 
--- The lines that end before `at` are answered, and of the one that does not the first characters are kept; `end` is the place of the next
--- byte 10.
+-- The lines that end before `at` are answered, and of the one that does not the first characters are kept; `end` is the place of
+-- the next byte 10.
 pub record Turn (line block keptEntry scratchEntry outEntry kept scratch out : List ℕ) (at left written end : ℕ) : Type 0 where
   pub line-end : LineEnd block at end
   pub wrote : Wrote (finished line (take at block)) outEntry out written
@@ -55,7 +61,8 @@ pub none-written : (out : List ℕ) → Wrote [] out out 0
 unfolding repliesTo behind
 none-written out = record { replies = refl; count = refl }
 
-pub none-answered : (block kept : List ℕ) (k : ℕ) (scratch out : List ℕ) (end : ℕ) → Enough (length kept) k (length scratch) (length out) → LineEnd block 0 end
+pub none-answered : (block kept : List ℕ) (k : ℕ) (scratch out : List ℕ) (end : ℕ)
+    → Enough (length kept) k (length scratch) (length out) → LineEnd block 0 end
     → Turn (take k kept) block kept scratch out kept scratch out 0 k 0 end
 unfolding finished unfinished
 none-answered block kept k scratch out end e l =
@@ -76,13 +83,14 @@ none-answered block kept k scratch out end e l =
 
 -- ---- a line more
 
-behind-snoc : (ls : List (List ℕ)) (line entry : List ℕ) → behind (ls ++ (line ∷ [])) entry ≡ behindOne (replyOf line) (behind ls entry)
+behind-snoc : (ls : List (List ℕ)) (line entry : List ℕ)
+    → behind (ls ++ (line ∷ [])) entry ≡ behindOne (replyOf line) (behind ls entry)
 unfolding behind
 behind-snoc [] line entry = refl
 behind-snoc (l ∷ ls) line entry = behind-snoc ls line (behindOne (replyOf l) entry)
 
-pub wrote-more : (ls : List (List ℕ)) (line entry out exit : List ℕ) (w n : ℕ) → Wrote ls entry out w → Adds (replyOf line) w out exit n
-    → Wrote (ls ++ (line ∷ [])) entry exit n
+pub wrote-more : (ls : List (List ℕ)) (line entry out exit : List ℕ) (w n : ℕ) → Wrote ls entry out w
+    → Adds (replyOf line) w out exit n → Wrote (ls ++ (line ∷ [])) entry exit n
 unfolding repliesTo
 wrote-more ls line entry out exit w n c a =
     let before : take w out ≡ repliesTo replyOf ls =
@@ -110,7 +118,8 @@ module _ {line block keptEntry scratchEntry outEntry kept scratch out : List ℕ
   same-reply = first-515 (take left kept ++ piece at end block) ∙ ap replyOf same-first ∙ sym (first-515 (readTo line block at end))
 
   pub one-more : (keptExit scratchExit outExit : List ℕ) (n next : ℕ) → end < length block → scratchSize ≤ length scratchEntry
-      → Adds (replyOf (take left kept ++ piece at end block)) written out outExit n → Later 515 kept keptExit → scratchExit ≡ filled scratchSize [] scratch
+      → Adds (replyOf (take left kept ++ piece at end block)) written out outExit n → Later 515 kept keptExit
+      → scratchExit ≡ filled scratchSize [] scratch
       → LineEnd block (end + 1) next
       → Turn line block keptEntry scratchEntry outEntry keptExit scratchExit outExit (end + 1) 0 n next
   unfolding finished unfinished
@@ -133,14 +142,16 @@ module _ {line block keptEntry scratchEntry outEntry kept scratch out : List ℕ
           most = omega arith;
           rest = later-twice 515 keptEntry kept keptExit (turn .keeps .rest) l;
         });
-        rest = later-twice scratchSize scratchEntry scratch scratchExit (turn .rest) (rw z (later-filled scratchSize scratch (omega arith)));
+        rest =
+            later-twice scratchSize scratchEntry scratch scratchExit (turn .rest)
+            (rw z (later-filled scratchSize scratch (omega arith)));
       }
 
   -- ---- the ends
 
   -- No room is left for another reply.
-  pub no-room : length out - written < 515 → Goes line block outEntry out at written
-  no-room h = record { within = omega arith; stops = λ l. omega arith; wrote = turn .wrote }
+  pub no-room : length out - written < 515 → Goes line block outEntry at
+  no-room h = record { within = omega arith; stops = λ l. omega (arith, turn .wrote .count) }
 
   -- No byte 10 is left in the block.
   module _ (last : length block ≤ end) where
@@ -152,16 +163,15 @@ module _ {line block keptEntry scratchEntry outEntry kept scratch out : List ℕ
         let k : length block ≡ at + (end - at) = omega arith in
         ap (λ (n : ℕ). take n block) k ∙ take-add at (end - at) block
 
-    pub all-used : Goes line block outEntry out (length block) written
-    all-used =
+    pub all-used : Goes line block outEntry (length block)
+    all-used = record { within = omega arith; stops = λ l. absurd (omega arith) }
+
+    pub all-wrote : Wrote (finished line (take (length block) block)) outEntry out written
+    all-wrote =
         let none : finished (unfinished line (take at block)) (piece at end block) ≡ [] =
         finished-stretch (unfinished line (take at block)) (piece at end block) (turn .line-end .unbroken-before)
         in
-        record {
-          within = omega arith;
-          stops = λ l. absurd (omega arith);
-          wrote = rw (whole, finished-append, none, append-nil) (turn .wrote);
-        }
+        rw (whole, finished-append, none, append-nil) (turn .wrote)
 
     pub rest-kept : (keptExit : List ℕ) (n : ℕ) → Keeps (take left kept ++ piece at (length block) block) kept keptExit n
         → Keeps (unfinished line (take (length block) block)) keptEntry keptExit n
@@ -170,7 +180,9 @@ module _ {line block keptEntry scratchEntry outEntry kept scratch out : List ℕ
         rw (whole, unfinished-append)
         (unfinished-stretch (unfinished line (take at block)) (piece at end block) (turn .line-end .unbroken-before))
         in
-        let same : take 515 (take left kept ++ piece at (length block) block) ≡ take 515 (readTo line block at end) = rw at-end same-first in
+        let same : take 515 (take left kept ++ piece at (length block) block) ≡ take 515 (readTo line block at end) =
+        rw at-end same-first
+        in
         rw all
         (record {
           first = k .first ∙ same;

@@ -1,5 +1,6 @@
--- Answering a file block by block. Answers defines what a call leaves; Sessions has the theorem over all calls. Pieces says what
--- the private steps of a call do.
+-- Answering a file block by block. Answers defines what a call answers and leaves, AnswerLaws has the laws of one call, and
+-- Sessions the theorem over all calls. Pieces says what the private steps of a call do.
 pub mod Answers
 pub mod Pieces
+pub mod AnswerLaws
 pub mod Sessions

@@ -1,14 +1,15 @@
--- What the private steps of an answer do: finding the end of a line, keeping a line's first characters, and adding one reply.
--- Definitions only.
+-- What the private steps of an answer do: finding the end of a line, keeping a line's first characters, adding one reply, and the
+-- replies written so far. Definitions only.
 use mathlib.Core.Path.{_≡_}
 use mathlib.Core.Bool.{true}
 use mathlib.Core.List.{List, _∷_, _++_}
 use Prim.Native.Nat.{ℕ, _+_, _-_, _≤_, _<_}
 use lib.ListN.{length, take, drop, getD}
-use Rattle.lines.specs.Stream.{unbroken}
+use Rattle.lines.specs.Stream.{unbroken, repliesTo}
+use Rattle.frames.specs.Replies.{replyOf}
 use Rattle.frames.specs.declared.Replied.{Replied}
 use Rattle.frames.specs.declared.Replied.the-variants as replied
-use Rattle.stream.specs.Answers.{behindOne}
+use Rattle.stream.specs.Answers.{behindOne, behind}
 
 -- The characters of a block from a place up to another.
 abbrev pub piece : ℕ → ℕ → List ℕ → List ℕ
@@ -38,6 +39,11 @@ pub record Adds (reply : List ℕ) (at : ℕ) (entry exit : List ℕ) (n : ℕ) 
   pub list : exit ≡ take at entry ++ (reply ++ (10 ∷ behindOne reply (drop at entry)))
   pub end : n ≡ at + (length reply + 1)
   pub same : length exit ≡ length entry
+
+-- At exit `out` holds the replies to lines, each with its byte 10; n tells how many bytes these are.
+pub record Wrote (lines : List (List ℕ)) (entry exit : List ℕ) (n : ℕ) : Type 0 where
+  pub replies : exit ≡ repliesTo replyOf lines ++ behind lines entry
+  pub count : n ≡ length (repliesTo replyOf lines)
 
 -- How many digits an answer tells: a refusal's number has two.
 unfoldable pub digitsTold : Replied → ℕ

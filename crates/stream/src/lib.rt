@@ -3,39 +3,47 @@
 // follows. Every public function here takes any input.
 use frames::Replied;
 ghost use mathlib.Core.Path.{_≡_};
-ghost use mathlib.Core.Bool.{true, false};
+ghost use mathlib.Core.Bool.{false};
 ghost use mathlib.Core.List.{[], _++_};
 ghost use Prim.Native.Nat.{_+_, _≤_, min};
 ghost use lib.ListN.{length, take};
-ghost use Rattle.lent.specs.Lent.{filled, scratchSize};
-ghost use Rattle.lines.specs.Stream.{unfinished};
+ghost use Rattle.lent.specs.Lent.{filled, scratchSize, scratchLeft};
+ghost use Rattle.lines.specs.Stream.{finished, unfinished, lastLine};
 ghost use Rattle.frames.specs.Replies.{replyOf};
-ghost use Rattle.stream.specs.Answers.{Enough, Goes, BlockAnswer, EndAnswer};
-ghost use Rattle.stream.specs.Pieces.{LineEnd, Later, Keeps, Adds, digitsTold};
+ghost use Rattle.stream.specs.Answers.{little, Enough, Goes, usedOf, fedOf, keptLeft, repliesLeft, endedOf};
+ghost use Rattle.stream.specs.Pieces.{LineEnd, Later, Keeps, Adds, Wrote, digitsTold};
 
-// How much of a block was used, how many characters are kept of the line that it leaves unfinished, and how many bytes of replies
-// were written.
-pub struct Fed {
-    pub used: usize,
-    pub kept: usize,
-    pub written: usize,
+// What a block gets: how much of it was used, how many characters are kept of the line that it leaves unfinished, and how many
+// bytes of replies were written; or the number of the refusal.
+pub enum Fed {
+    Taken {
+        used: usize,
+        kept: usize,
+        written: usize,
+    },
+    Refused(u8),
 }
 
-// Whether enough is lent, by the numbers of places.
-fn is_enough(kept: usize, k: usize, scratch: usize, out: usize) -> bool
-    ensures { λ r. ⌜ (r ≡ true → Enough kept k scratch out) ⌝ }
-    ensures { λ r. ⌜ (r ≡ false → Enough kept k scratch out → ⊥) ⌝ }
+// What the end of a file gets: how many bytes of a reply were written, or the number of the refusal.
+pub enum Ended {
+    Written(usize),
+    Refused(u8),
+}
+
+// Whether too little is lent.
+fn is_little(kept: &[u8], k: usize, scratch: &[u64], out: &[u8]) -> bool
+    ensures { λ r. ⌜ r ≡ little (now (kept .entry)) k (now (scratch .entry)) (now (out .entry)) ⌝ }
 {
-    if kept < 515 {
-        return false;
+    if scratch.len() < lent::SCRATCH {
+        return true;
     }
-    if k > 515 {
-        return false;
+    if out.len() < 515 {
+        return true;
     }
-    if scratch < lent::SCRATCH {
-        return false;
+    if kept.len() < 515 {
+        return true;
     }
-    out >= 515
+    k > 515
 }
 
 // The place of the first byte 10 of the block from `from` on, and the block's length where there is none.
@@ -126,11 +134,27 @@ fn finish_line(
     answer_line(&kept[0..n], scratch, out, at)
 }
 
+// How far the lines of a block are answered.
+struct Progress {
+    used: usize,
+    kept: usize,
+    written: usize,
+}
+
 // Answers the lines that end in a block, as many as `out` has room for, and keeps the line that the block leaves unfinished.
-fn answer_lines(block: &[u8], kept: &mut [u8], k: usize, scratch: &mut [u64], out: &mut [u8]) -> Fed
+fn answer_lines(
+    block: &[u8],
+    kept: &mut [u8],
+    k: usize,
+    scratch: &mut [u64],
+    out: &mut [u8],
+) -> Progress
     requires { ⌜ Enough (length (now kept)) k (length (now scratch)) (length (now out)) ⌝ }
-    ensures { λ r. ⌜ Goes (take k (now (kept .entry))) (now (block .entry)) (now (out .entry)) (now (out .exit)) (r .used) (r .written) ⌝ }
-    ensures { λ r. ⌜ Keeps (unfinished (take k (now (kept .entry))) (take (r .used) (now (block .entry)))) (now (kept .entry)) (now (kept .exit)) (r .kept) ⌝ }
+    ensures { λ r. ⌜ Goes (take k (now (kept .entry))) (now (block .entry)) (now (out .entry)) (r .used) ⌝ }
+    ensures { λ r. ⌜ Wrote (finished (take k (now (kept .entry))) (take (r .used) (now (block .entry)))) (now (out .entry))
+        (now (out .exit)) (r .written) ⌝ }
+    ensures { λ r. ⌜ Keeps (unfinished (take k (now (kept .entry))) (take (r .used) (now (block .entry)))) (now (kept .entry))
+        (now (kept .exit)) (r .kept) ⌝ }
     ensures { λ _. ⌜ Later scratchSize (now (scratch .entry)) (now (scratch .exit)) ⌝ }
 {
     let mut at = 0;
@@ -139,7 +163,7 @@ fn answer_lines(block: &[u8], kept: &mut [u8], k: usize, scratch: &mut [u64], ou
     let mut end = line_end(block, 0);
     while end < block.len() {
         if out.len() - written < 515 {
-            return Fed {
+            return Progress {
                 used: at,
                 kept: left,
                 written,
@@ -151,7 +175,7 @@ fn answer_lines(block: &[u8], kept: &mut [u8], k: usize, scratch: &mut [u64], ou
         end = line_end(block, at);
     }
     left = keep(&block[at..], kept, left);
-    Fed {
+    Progress {
         used: block.len(),
         kept: left,
         written,
@@ -168,10 +192,10 @@ fn clear_behind(kept: &mut [u8], n: usize)
 
 // Answers a block of a file. The first k of `kept` hold what was kept of the line that the block goes on with, nothing at the start
 // of a file. `out` gets the replies to the lines that end in the block, as many as there is room for: 515 bytes are asked for each,
-// which take the longest reply. What the answer says to be used of the block is done with; the rest of it is for the next call.
+// which take the longest reply and its byte 10. `used` bytes of the block have been consumed; the rest of it is for the next call.
 // `kept` gets the first 515 characters of the line that is left unfinished, then zeros up to 515; the scratch gets zeros up to
-// `lent::SCRATCH`; both keep what stands after. Where less than `lent::SCRATCH` of scratch, 515 of kept or 515 of out is lent, or k is above 515,
-// nothing is touched.
+// `lent::SCRATCH`; both keep what stands after. Refuses with 1 where less than `lent::SCRATCH` of scratch, 515 of kept or 515 of
+// out is lent, or k is above 515; then nothing is touched.
 pub fn answer_block(
     block: &[u8],
     kept: &mut [u8],
@@ -179,32 +203,50 @@ pub fn answer_block(
     scratch: &mut [u64],
     out: &mut [u8],
 ) -> Fed
-    ensures { λ r. ⌜ BlockAnswer (now (block .entry)) k (now (kept .entry)) (now (kept .exit)) (now (scratch .entry)) (now (scratch .exit)) (now (out .entry)) (now (out .exit)) r ⌝ }
+    ensures answer { λ r. ⌜ r
+        ≡ fedOf (little (now (kept .entry)) k (now (scratch .entry)) (now (out .entry))) (take k (now (kept .entry)))
+        (now (block .entry)) (usedOf r) ⌝ }
+    ensures goes { λ r. ⌜ (little (now (kept .entry)) k (now (scratch .entry)) (now (out .entry)) ≡ false
+        → Goes (take k (now (kept .entry))) (now (block .entry)) (now (out .entry)) (usedOf r)) ⌝ }
+    ensures kept { λ r. ⌜ now (kept .exit)
+        ≡ keptLeft (little (now (kept .entry)) k (now (scratch .entry)) (now (out .entry)))
+        (unfinished (take k (now (kept .entry))) (take (usedOf r) (now (block .entry)))) (now (kept .entry)) ⌝ }
+    ensures out { λ r. ⌜ now (out .exit)
+        ≡ repliesLeft (little (now (kept .entry)) k (now (scratch .entry)) (now (out .entry)))
+        (finished (take k (now (kept .entry))) (take (usedOf r) (now (block .entry)))) (now (out .entry)) ⌝ }
+    ensures scratch { λ _. ⌜ now (scratch .exit)
+        ≡ scratchLeft (little (now (kept .entry)) k (now (scratch .entry)) (now (out .entry))) (now (scratch .entry)) ⌝ }
 {
-    if !is_enough(kept.len(), k, scratch.len(), out.len()) {
-        return Fed {
-            used: 0,
-            kept: k,
-            written: 0,
-        };
+    if is_little(kept, k, scratch, out) {
+        return Fed::Refused(1);
     }
-    let fed = answer_lines(block, kept, k, scratch, out);
-    clear_behind(kept, fed.kept);
+    let gone = answer_lines(block, kept, k, scratch, out);
+    clear_behind(kept, gone.kept);
     lent::clear_u64(&mut scratch[0..lent::SCRATCH]);
-    fed
+    Fed::Taken {
+        used: gone.used,
+        kept: gone.kept,
+        written: gone.written,
+    }
 }
 
 // Answers what is kept at the end of a file: a line, unless it is empty. Tells how many bytes were written. The scratch gets zeros
-// up to `lent::SCRATCH`. Where less is lent than `answer_block` asks for, 0 is told and nothing is touched.
-pub fn answer_end(kept: &[u8], k: usize, scratch: &mut [u64], out: &mut [u8]) -> usize
-    ensures { λ r. ⌜ EndAnswer (now (kept .entry)) k (now (scratch .entry)) (now (scratch .exit)) (now (out .entry)) (now (out .exit)) r ⌝ }
+// up to `lent::SCRATCH`. Refuses with 1 where less is lent than `answer_block` asks for; then nothing is touched.
+pub fn answer_end(kept: &[u8], k: usize, scratch: &mut [u64], out: &mut [u8]) -> Ended
+    ensures answer { λ r. ⌜ r
+        ≡ endedOf (little (now (kept .entry)) k (now (scratch .entry)) (now (out .entry))) (take k (now (kept .entry))) ⌝ }
+    ensures out { λ _. ⌜ now (out .exit)
+        ≡ repliesLeft (little (now (kept .entry)) k (now (scratch .entry)) (now (out .entry)))
+        (lastLine (take k (now (kept .entry)))) (now (out .entry)) ⌝ }
+    ensures scratch { λ _. ⌜ now (scratch .exit)
+        ≡ scratchLeft (little (now (kept .entry)) k (now (scratch .entry)) (now (out .entry))) (now (scratch .entry)) ⌝ }
 {
-    if !is_enough(kept.len(), k, scratch.len(), out.len()) {
-        return 0;
+    if is_little(kept, k, scratch, out) {
+        return Ended::Refused(1);
     }
     if k == 0 {
         lent::clear_u64(&mut scratch[0..lent::SCRATCH]);
-        return 0;
+        return Ended::Written(0);
     }
-    answer_line(&kept[0..k], scratch, out, 0)
+    Ended::Written(answer_line(&kept[0..k], scratch, out, 0))
 }

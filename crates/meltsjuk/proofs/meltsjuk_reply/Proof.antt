@@ -10,16 +10,16 @@ use Rattle.digits.specs.DigitLaws.{length-digits}
 use Rattle.frames.specs.Replies.{Reply, refusedAs, servedWith, digitsIn, replyTo, replyOf, repliedOf, answerTo}
 use Rattle.frames.specs.declared.Replied.{Replied}
 use Rattle.frames.specs.declared.Replied.the-variants as replied
-use Rattle.meltsjuk.specs.Answers.{digitsLeft}
+use Rattle.meltsjuk.specs.Answers.{digitsOrRefusal}
 use Rattle.frames.specs.Refusals.{OfLines, reply-refusal}
 use Rattle.meltsjuk.proofs.meltsjuk_reply.Statement.{statement}
 use Rattle.meltsjuk.proofs.meltsjuk_reply.Tie as tie
 
--- The answer of `reply` and the number of digits: 1 and none, a later refusal and two, or as many as are told.
-by-answer : (little : Bool) (line : List ℕ) (P : Replied → ℕ → Type 0) → P (replied.Refused 1) 0
+-- The answer of `reply` and the number that is told: 1 for refusal 1, two digits for a later refusal, or as many as `reply` tells.
+by-answer : (little : Bool) (line : List ℕ) (P : Replied → ℕ → Type 0) → P (replied.Refused 1) 1
     → ((r : ℕ) → OfLines r → P (replied.Refused r) 2) → ((k : ℕ) → P (replied.Digits k) k)
-    → P (answerTo little line) (digitsLeft little line)
-unfolding answerTo repliedOf digitsLeft replyOf digitsIn
+    → P (answerTo little line) (digitsOrRefusal little line)
+unfolding answerTo repliedOf digitsOrRefusal replyOf digitsIn
 by-answer true line P one later served = one
 by-answer false line P one later served = go (replyTo line) refl
   where
@@ -28,21 +28,21 @@ by-answer false line P one later served = go (replyTo line) refl
     go (servedWith ds) e = served (length ds)
 
 module _ (little : Bool) (line : List ℕ) where
-  told-digits : (k : ℕ) → replied.Digits k ≡ answerTo little line → k ≡ digitsLeft little line
+  told-digits : (k : ℕ) → replied.Digits k ≡ answerTo little line → k ≡ digitsOrRefusal little line
   told-digits k =
       by-answer little line (λ (a : Replied) (n : ℕ). replied.Digits k ≡ a → k ≡ n)
       (λ e. let z : _≡_ {A = ℕ} 0 1 = cc in absurd (omega arith))
       (λ r l e. let z : _≡_ {A = ℕ} 0 1 = cc in absurd (omega arith))
       (λ j e. cc)
 
-  told-1 : (q : ℕ) → replied.Refused q ≡ answerTo little line → q ≡ 1 → 0 ≡ digitsLeft little line
+  told-1 : (q : ℕ) → replied.Refused q ≡ answerTo little line → q ≡ 1 → 1 ≡ digitsOrRefusal little line
   told-1 q =
-      by-answer little line (λ (a : Replied) (n : ℕ). replied.Refused q ≡ a → q ≡ 1 → 0 ≡ n)
+      by-answer little line (λ (a : Replied) (n : ℕ). replied.Refused q ≡ a → q ≡ 1 → 1 ≡ n)
       (λ e h. refl)
       (λ r l e h. let same : q ≡ r = cc in absurd (omega arith))
       (λ j e h. let z : _≡_ {A = ℕ} 0 1 = cc in absurd (omega arith))
 
-  told-later : (q : ℕ) → replied.Refused q ≡ answerTo little line → (q ≡ 1 → ⊥) → 2 ≡ digitsLeft little line
+  told-later : (q : ℕ) → replied.Refused q ≡ answerTo little line → (q ≡ 1 → ⊥) → 2 ≡ digitsOrRefusal little line
   told-later q =
       by-answer little line (λ (a : Replied) (n : ℕ). replied.Refused q ≡ a → (q ≡ 1 → ⊥) → 2 ≡ n)
       (λ e h. let same : q ≡ 1 = cc in absurd (h same))

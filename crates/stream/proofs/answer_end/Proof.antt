@@ -1,20 +1,23 @@
 -- `answer_end` answers what is kept as one line, and clears the scratch where there is none.
-use mathlib.Core.Path.{_≡_, refl}
+use mathlib.Core.Path.{_≡_, refl, sym, _∙_}
+use mathlib.Core.Bool.{Bool, true, false}
 use mathlib.Core.List.{List, [], _∷_}
-use Prim.Native.Nat.{ℕ, _-_, _<_}
+use Prim.Native.Nat.{ℕ, _-_, _≤_, _<_}
 use native.Mathlib.Nat.{sub-zero}
 use native.Mathlib.Omega.{arith}
 use borrow.Author.Needs.{needs}
-use borrow.Author.Tests.{not-true, not-false}
 use borrow.Rule.Slice.PartMut.{midOf, putMid}
 use lib.ListN.{length, take}
 use lib.Seq.{length-take-le}
 use Rattle.lent.specs.LentLaws.{cleared}
-use Rattle.lent.specs.Lent.{zeros, filled, scratchSize}
+use Rattle.lent.specs.Lent.{zeros, filled, scratchSize, scratchLeft}
 use Rattle.lines.specs.Stream.{lastLine}
 use Rattle.frames.specs.Replies.{replyOf}
-use Rattle.stream.specs.Answers.{Enough, EndAnswer}
-use Rattle.stream.specs.Pieces.{Adds}
+use Rattle.stream.specs.Answers.{repliesLeft, endedOf}
+use Rattle.stream.specs.AnswerLaws.{lent-enough}
+use Rattle.stream.specs.Pieces.{Adds, Wrote}
+use Rattle.stream.specs.declared.Ended.{Ended}
+use Rattle.stream.specs.declared.Ended.the-variants as ended
 use Rattle.stream.proofs.Turns.{none-written, wrote-more}
 use Rattle.stream.proofs.answer_end.Statement.{statement}
 use Rattle.stream.proofs.answer_end.Tie as tie
@@ -24,70 +27,84 @@ unfolding lastLine
 line-there [] h = absurd (omega arith)
 line-there (c ∷ line) h = refl
 
-module _ (kept : List ℕ) (k : ℕ) (scratch out : List ℕ) where
-  too-little : (Enough (length kept) k (length scratch) (length out) → ⊥) → EndAnswer kept k scratch scratch out out 0
-  too-little n = record { answered = λ e. absurd (n e); untouched = λ m. (refl, refl, refl) }
+-- What the contract says, of a call that answers r.
+abbrev Contract : Bool → List ℕ → List ℕ → List ℕ → List ℕ → List ℕ → Ended → Type 0
+Contract b line scratch scratchExit out outExit r =
+    (r ≡ endedOf b line) × ((outExit ≡ repliesLeft b (lastLine line) out) × (scratchExit ≡ scratchLeft b scratch))
 
-  module _ (enough : Enough (length kept) k (length scratch) (length out)) where
-    no-line : (part : List ℕ) → k ≡ 0 → part ≡ zeros (length (midOf 0 scratchSize scratch))
-        → EndAnswer kept k scratch (putMid 0 scratchSize scratch part) out out 0
-    unfolding lastLine
-    no-line part h z = record {
-      answered = λ e. (rw h (none-written out), cleared scratchSize scratch scratch part (omega arith) refl z);
-      untouched = λ n. absurd (n enough);
-    }
+too-little : (b : Bool) (line scratch out : List ℕ) → b ≡ true → Contract b line scratch scratch out out (ended.Refused 1)
+unfolding endedOf repliesLeft scratchLeft
+too-little b line scratch out e = rw e (refl, (refl, refl))
 
-    one-line : (scratchExit outExit : List ℕ) (n : ℕ) → (k ≡ 0 → ⊥) → Adds (replyOf (take (k - 0) kept)) 0 out outExit n
-        → scratchExit ≡ filled scratchSize [] scratch → EndAnswer kept k scratch scratchExit out outExit n
-    one-line scratchExit outExit n h a z =
-        let l : 0 < length (take k kept) = omega (arith, length-take-le k kept (omega arith)) in
-        record {
-          answered = λ e.
-              (rw (line-there (take k kept) l) (wrote-more [] (take k kept) out out outExit 0 n (none-written out) (rw sub-zero at a)), z);
-          untouched = λ m. absurd (m enough);
-        }
+module _ (b : Bool) (kept : List ℕ) (k : ℕ) (scratch out : List ℕ) (enough : b ≡ false) where
+  written : (scratchExit outExit : List ℕ) (n : ℕ) → Wrote (lastLine (take k kept)) out outExit n
+      → scratchExit ≡ filled scratchSize [] scratch → Contract b (take k kept) scratch scratchExit out outExit (ended.Written n)
+  unfolding endedOf repliesLeft scratchLeft
+  written scratchExit outExit n w z = rw (enough, w .count) (refl, (w .replies, z))
+
+  no-line : (part : List ℕ) → scratchSize ≤ length scratch → k ≡ 0 → part ≡ zeros (length (midOf 0 scratchSize scratch))
+      → Contract b (take k kept) scratch (putMid 0 scratchSize scratch part) out out (ended.Written 0)
+  unfolding lastLine
+  no-line part room h z =
+      let w : Wrote (lastLine (take k kept)) out out 0 = rw h (none-written out) in
+      written _ out 0 w (cleared scratchSize scratch scratch part room refl z)
+
+  one-line : (scratchExit outExit : List ℕ) (n : ℕ) → k ≤ length kept → (k ≡ 0 → ⊥)
+      → Adds (replyOf (take (k - 0) kept)) 0 out outExit n
+      → scratchExit ≡ filled scratchSize [] scratch → Contract b (take k kept) scratch scratchExit out outExit (ended.Written n)
+  one-line scratchExit outExit n room h a z =
+      let l : 0 < length (take k kept) = omega (arith, length-take-le k kept room) in
+      let w : Wrote (lastLine (take k kept)) out outExit n =
+      rw (line-there (take k kept) l) (wrote-more [] (take k kept) out out outExit 0 n (none-written out) (rw sub-zero at a))
+      in
+      written scratchExit outExit n w z
 
 returns : tie.Need-returns
-returns c = too-little _ _ _ _ (c .before .is-enough .ensures .1 (not-true _ (c .if1 .taken)))
+returns c = too-little _ _ _ _ (sym (c .before .is-little .ensures) ∙ c .if1 .taken)
 
 part-clear-u64-end : tie.Need-part-clear-u64-end
 part-clear-u64-end c =
-    let e = c .before .before .is-enough .ensures .0 (not-false _ (c .before .if1 .left)) in
+    let e = lent-enough _ _ _ _ (sym (c .before .before .is-little .ensures) ∙ c .before .if1 .left) in
     search needs
 
 returns-2 : tie.Need-returns-2
 returns-2 c =
     let i = c .before .before .before .before in
-    no-line _ _ _ _ (i .before .before .is-enough .ensures .0 (not-false _ (i .before .if1 .left))) _ (i .if2 .taken) (c .before .before .clear-u64 .ensures)
+    let n = sym (i .before .before .is-little .ensures) ∙ i .before .if1 .left in
+    no-line _ _ _ _ _ n _ (lent-enough _ _ _ _ n .scratch-lent) (i .if2 .taken) (c .before .before .clear-u64 .ensures)
 
 part-answer-line-end : tie.Need-part-answer-line-end
 part-answer-line-end c =
-    let e = c .before .before .is-enough .ensures .0 (not-false _ (c .before .if1 .left)) in
+    let e = lent-enough _ _ _ _ (sym (c .before .before .is-little .ensures) ∙ c .before .if1 .left) in
     search needs
 
 answer-line-requires : tie.Need-answer-line-requires
 answer-line-requires c κs =
     let i = c .before .before .before .before in
-    let e = i .before .is-enough .ensures .0 (not-false _ (i .if1 .left)) in
+    let e = lent-enough _ _ _ _ (sym (i .before .is-little .ensures) ∙ i .if1 .left) in
     search needs
 
 returns-3 : tie.Need-returns-3
 returns-3 c =
     let l = c .before .before .before .before in
     let i = l .before .before .before .before in
-    one-line _ _ _ _ (i .before .before .is-enough .ensures .0 (not-false _ (i .before .if1 .left))) _ _ _ (i .if2 .left) (l .answer-line .ensures .0)
-    (l .answer-line .ensures .1)
+    let n = sym (i .before .before .is-little .ensures) ∙ i .before .if1 .left in
+    let e = lent-enough _ _ _ _ n in
+    one-line _ _ _ _ _ n _ _ _ (omega arith) (i .if2 .left) (l .answer-line .ensures .0) (l .answer-line .ensures .1)
 
 pub answer-end-spec : {M : Type 1} → statement M
 answer-end-spec =
     tie.close
     (tie.spec
     (λ c κs. search needs)
+    (λ c. search needs)
+    (λ c. search needs)
     returns
     (λ c. search needs)
     (λ c. search needs)
     part-clear-u64-end
     (λ c κs. search needs)
+    (λ c. search needs)
     (λ c. search needs)
     returns-2
     (λ c. search needs)

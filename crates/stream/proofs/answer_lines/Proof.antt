@@ -2,8 +2,8 @@
 use Prim.Native.Nat.{_-_}
 use native.Mathlib.Omega.{arith}
 use lib.ListN.{length, take}
-use Rattle.stream.specs.Sessions.{wrote-fits}
-use Rattle.stream.proofs.Turns.{Turn, none-answered, one-more, no-room, all-used, rest-kept}
+use Rattle.stream.specs.AnswerLaws.{wrote-fits}
+use Rattle.stream.proofs.Turns.{Turn, none-answered, one-more, no-room, all-used, all-wrote, rest-kept}
 use borrow.Author.Needs.{needs}
 use Rattle.stream.proofs.answer_lines.Statement.{statement}
 use Rattle.stream.proofs.answer_lines.Tie as tie
@@ -18,7 +18,7 @@ abbrev μ-loop : tie.MeasureT-loop
 returns : tie.Need-returns Inv-loop μ-loop
 returns c =
     let t = c .before .before .loop .inv in
-    (no-room t (c .if1 .taken), (t .keeps, t .rest))
+    (no-room t (c .if1 .taken), (t .wrote, (t .keeps, t .rest)))
 
 loop-again : tie.Need-loop-again Inv-loop μ-loop
 loop-again c =
@@ -29,8 +29,10 @@ loop-again c =
 
 returns-2 : tie.Need-returns-2 Inv-loop μ-loop
 returns-2 c =
-    let t = c .before .before .before .before .before .before .loop .inv in
-    (all-used t (omega arith), (rest-kept t (omega arith) _ _ (c .before .before .keep .ensures), t .rest))
+    let t = c .before .before .before .before .before .before .loop .inv in (
+      all-used t (omega arith),
+      (all-wrote t (omega arith), (rest-kept t (omega arith) _ _ (c .before .before .keep .ensures), t .rest)),
+    )
 
 pub answer-lines-spec : {M : Type 1} → statement M
 answer-lines-spec =

@@ -18,9 +18,10 @@ first-kept line n kept e = rw sub-zero (first-515 line ∙ ap replyOf (sym e))
 
 returns : tie.Need-returns
 returns c =
-    let a = c .before .before .before .before .before .before .before .before .before .before .before .before .args in
+    let i = c .before .before .before .before .before .before .before in
+    let a = i .before .before .before .before .before .args in
     let r = c .before .before .before .before .answer-line .ensures in (
-      rw (none-kept (a .k) (a .kept .now) (a .part .now) (c .before .before .before .before .before .before .before .if1 .taken)) (r .0),
+      rw (none-kept (a .k) (a .kept .now) (a .part .now) (i .if1 .taken)) (r .0),
       (r .1, record { later = refl; same = refl }),
     )
 
@@ -29,7 +30,8 @@ returns-2 c =
     let k = c .before .before .before .before .before .before .before .before .before .before .before in
     let a = k .before .before .before .before .before .before .before .args in
     let r = c .before .before .before .before .answer-line2 .ensures in
-    let same = first-kept (take (a .k) (a .kept .now) ++ a .part .now) (k .keep .result) (k .keep .last .1 .0) (k .keep .ensures .first) in
+    let line = take (a .k) (a .kept .now) ++ a .part .now in
+    let same = first-kept line (k .keep .result) (k .keep .last .1 .0) (k .keep .ensures .first) in
     (rw same (r .0), (r .1, k .keep .ensures .rest))
 
 pub finish-line-spec : {M : Type 1} → statement M

@@ -1,5 +1,5 @@
--- `keep` copies as much of the part as 515 places leave room for: after i turns the first i characters stand behind the k that were kept.
--- The measure is the number that is left to copy.
+-- `keep` copies as much of the part as 515 places leave room for: after i turns the first i characters stand behind the k that were
+-- kept. The measure is the number that is left to copy.
 use mathlib.Core.Path.{_≡_, refl, sym, _∙_}
 use mathlib.Core.Bool.{Bool, true, false}
 use mathlib.Core.List.{List, _++_}
@@ -23,8 +23,8 @@ record Copied (part entry : List ℕ) (k : ℕ) (kept : List ℕ) (i : ℕ) : Ty
 none-copied : (part entry : List ℕ) (k : ℕ) → Copied part entry k entry 0
 none-copied part entry k = record { same = refl; list = paste-zero entry k part }
 
-more-copied : (part entry : List ℕ) (k : ℕ) (kept : List ℕ) (i : ℕ) → Copied part entry k kept i → k + i < length kept → i < length part
-    → Copied part entry k (set kept (k + i) (getD part i 0)) (i + 1)
+more-copied : (part entry : List ℕ) (k : ℕ) (kept : List ℕ) (i : ℕ) → Copied part entry k kept i → k + i < length kept
+    → i < length part → Copied part entry k (set kept (k + i) (getD part i 0)) (i + 1)
 more-copied part entry k kept i c h g = record {
   same = length-set kept (k + i) (getD part i 0) ∙ c .same;
   list = rw (c .list, add-one) (paste-suc entry k part i 0 (omega arith) g);
@@ -60,8 +60,13 @@ module _ (part entry : List ℕ) (k : ℕ) (kept : List ℕ) (more : ℕ) (h : k
         most = omega arith;
         rest = record {
           later =
-              rw
-              (n, ← drop-drop (515 - (k + more)) (k + more) kept, ← drop-drop (515 - (k + more)) (k + more) entry, c .list, drop-paste entry k part more a b);
+              rw (
+                n,
+                ← drop-drop (515 - (k + more)) (k + more) kept,
+                ← drop-drop (515 - (k + more)) (k + more) entry,
+                c .list,
+                drop-paste entry k part more a b,
+              );
           same = c .same;
         };
       }

@@ -22,13 +22,22 @@ module _ (block : List ℕ) (from i : ℕ) (after : from ≤ i) where
       let z : i - from ≡ 0 = omega arith in
       rw z
 
-  passes-more : i < length block → unbroken (piece from i block) ≡ true → (getD block i 0 ≡ 10 → ⊥) → unbroken (piece from (i + 1) block) ≡ true
+  passes-more : i < length block → unbroken (piece from i block) ≡ true → (getD block i 0 ≡ 10 → ⊥)
+      → unbroken (piece from (i + 1) block) ≡ true
   unfolding unbroken every
   passes-more h u n =
       let s : i + 1 - from ≡ suc (i - from) = omega arith in
       let k : from + (i - from) ≡ i = omega arith in
       let l : i - from < length (drop from block) = omega (arith, length-drop from block) in
-      rw (s, take-suc (drop from block) (i - from) 0, every-append, getD-drop from block (i - from) 0, k, ne-eqb (getD block i 0) 10 n, u)
+      rw (
+        s,
+        take-suc (drop from block) (i - from) 0,
+        every-append,
+        getD-drop from block (i - from) 0,
+        k,
+        ne-eqb (getD block i 0) 10 n,
+        u,
+      )
 
 abbrev Inv-loop : tie.InvT-loop
 Inv-loop block from i₀ i = (from ≤ i) × (i ≤ length block) × (unbroken (piece from i block) ≡ true)

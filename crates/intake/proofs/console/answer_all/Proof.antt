@@ -1,17 +1,31 @@
--- `answer_all` ends: the measure is the number of turns that are left.
+-- `answer_all` hands what is kept from one read to the next, and ends: the measure is the number of turns that are left.
 use mathlib.Core.Path.{_≡_}
 use lib.ListN.{length}
 use borrow.Author.Needs.{needs}
+use borrow.Author.Tests.{not-false}
+use Rattle.intake.specs.Console.{Alone}
 use Rattle.intake.proofs.Lent.{Lent}
 use Rattle.intake.proofs.console.answer_all.Statement.{statement}
 use Rattle.intake.proofs.console.answer_all.Tie as tie
 
 abbrev Inv-loop : tie.InvT-loop
 Inv-loop block₀ kept₀ scratch₀ out₀ k₀ turns₀ block kept scratch out k turns =
-    (length block ≡ length block₀) × Lent kept₀ scratch₀ out₀ kept scratch out k
+    (length block ≡ length block₀) × Lent kept₀ scratch₀ out₀ kept scratch out k × Alone kept k
 
 abbrev μ-loop : tie.MeasureT-loop
 μ-loop block₀ kept₀ scratch₀ out₀ k₀ turns₀ block kept scratch out k turns = turns
+
+loop-holds : tie.Need-loop-holds Inv-loop μ-loop
+loop-holds c = (search needs, search needs, c .before .before .before .before .pre .alone)
+
+answer-read-requires : tie.Need-answer-read-requires Inv-loop μ-loop
+answer-read-requires c κs = record { enough = search needs; alone = c .before .before .before .before .before .loop .inv .2 }
+
+loop-again : tie.Need-loop-again Inv-loop μ-loop
+loop-again c =
+    let q = c .before .before .before .before .before .before .before .before .before .before in
+    let h = q .answer-read .ensures (not-false _ (c .if1 .left)) .holds in
+    (search needs, search needs, h .alone)
 
 pub answer-all-spec : {M : Type 1} → statement M
 answer-all-spec =
@@ -19,16 +33,16 @@ answer-all-spec =
     (tie.spec
     Inv-loop
     μ-loop
+    loop-holds
     (λ c. search needs)
-    (λ c. search needs)
-    (λ c κs. search needs)
-    (λ c. search needs)
-    (λ c. search needs)
-    (λ c. search needs)
+    answer-read-requires
     (λ c. search needs)
     (λ c. search needs)
     (λ c. search needs)
     (λ c. search needs)
+    (λ c. search needs)
+    (λ c. search needs)
+    loop-again
     (λ c. search needs)
     (λ c. search needs)
     (λ c. search needs)

@@ -1,20 +1,23 @@
--- `answer_part` writes as much of `out` as the answer tells, and goes on in the block.
+-- `answer_part` writes as much of `out` as was told, and goes on in the block.
 use borrow.Author.Needs.{needs}
-use Rattle.stream.specs.Sessions.{moves-on}
+use Rattle.intake.specs.ConsoleLaws.{first-replies}
 use Rattle.intake.proofs.console.answer_part.Statement.{statement}
 use Rattle.intake.proofs.console.answer_part.Tie as tie
 
 part-put-end : tie.Need-part-put-end
 part-put-end c =
-    let a = c .before .before .before .before .before .before .before in
-    let m = moves-on (a .answer-block .ensures) (a .before .before .before .before .before .before .before .before .pre) in
+    let m = c .before .before .before .before .before .before .before .take-part .ensures .0 in
     search needs
+
+put-requires : tie.Need-put-requires
+put-requires c κs =
+    let q = c .before .before .before .before .before .before .before .before in
+    first-replies (q .take-part .result .written) _ _ (q .take-part .ensures .1 .1)
 
 returns : tie.Need-returns
 returns c =
-    let a = c .before .before .before .before .before .before .before .before .before in
-    let m = moves-on (a .answer-block .ensures) (a .before .before .before .before .before .before .before .before .pre) in
-    ((m .within, m .most-kept), m .some)
+    let e = c .before .before .before .before .before .before .before .before .before .take-part .ensures in
+    ((e .0 .within, e .0 .some), e .1 .0)
 
 pub answer-part-spec : {M : Type 1} → statement M
 answer-part-spec =
@@ -24,7 +27,7 @@ answer-part-spec =
     (λ c. search needs)
     (λ c. search needs)
     part-put-end
-    (λ c κs. search needs)
+    put-requires
     (λ c. search needs)
     (λ c. search needs)
     (λ c. search needs)

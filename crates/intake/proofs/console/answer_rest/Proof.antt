@@ -1,14 +1,18 @@
--- `answer_rest` writes as much of `out` as the answer tells.
+-- `answer_rest` writes as much of `out` as was told.
 use borrow.Author.Needs.{needs}
-use Rattle.stream.specs.Sessions.{wrote-fits}
+use Rattle.intake.specs.ConsoleLaws.{first-replies}
 use Rattle.intake.proofs.console.answer_rest.Statement.{statement}
 use Rattle.intake.proofs.console.answer_rest.Tie as tie
 
 part-put-end : tie.Need-part-put-end
 part-put-end c =
-    let a = c .before .before .before .before .before in
-    let m = wrote-fits _ _ _ _ (a .answer-end .ensures .answered (a .before .before .before .before .before .before .pre) .0) in
+    let m = c .before .before .before .before .before .take-rest .ensures .0 in
     search needs
+
+put-requires : tie.Need-put-requires
+put-requires c κs =
+    let q = c .before .before .before .before .before .before in
+    first-replies (q .take-rest .result) _ _ (q .take-rest .ensures .1)
 
 pub answer-rest-spec : {M : Type 1} → statement M
 answer-rest-spec =
@@ -18,7 +22,7 @@ answer-rest-spec =
     (λ c. search needs)
     (λ c. search needs)
     part-put-end
-    (λ c κs. search needs)
+    put-requires
     (λ c. search needs)
     (λ c. search needs)
     (λ c. search needs))
