@@ -15,9 +15,7 @@ use lib.ListN.{length}
 use Rattle.chains.specs.Chains.{Part, total}
 use Rattle.chains.specs.Words.{Word, chainOf, reads}
 use Rattle.chains.specs.Listing.{count, position, chainAt}
-use Rattle.chains.specs.Best.{Prices, Limits}
-use Rattle.chains.specs.BestOfAll.{bestOf}
-use Rattle.chains.specs.Weight.{weight}
+use Rattle.chains.specs.Best.{Prices, Limits, bestChain}
 use Rattle.parts.specs.Parts.{limit}
 use Rattle.words.specs.declared.Judged.{Judged}
 use Rattle.words.specs.declared.Judged.the-variants as judged
@@ -95,9 +93,9 @@ at-position n i = of-standing (refusalsOf at-line) 6 n i tt
 -- A word is refused with the same numbers, whether its chain or the next is asked for.
 of-word : (rs : List ℕ) → T (among 7 rs) → T (among 10 rs) → (w : Word) → OutcomeIn rs (ofWord w)
 unfolding ofWord
-of-word rs seven ten w = go (reads true w) (ltb (weight w) (2 ^ 64))
+of-word rs seven ten w = go (reads true w) (ltb (total (chainOf w)) (2 ^ 64))
   where
-    go : (good fits : Bool) → OutcomeIn rs (cond good (cond fits (gives (weight w) (chainOf w)) (refused 10)) (refused 7))
+    go : (good fits : Bool) → OutcomeIn rs (cond good (cond fits (gives (total (chainOf w)) (chainOf w)) (refused 10)) (refused 7))
     go true true = tt
     go true false = ten
     go false fits = seven
@@ -129,7 +127,7 @@ of-record l =
 
 of-best : (n : ℕ) (lim : Limits) (π : Prices) → OutcomeIn (refusalsOf best-line) (bestOutcome n lim π)
 unfolding bestOutcome orNone refusalsOf among
-of-best n lim π = go (bestOf (2 ^ 32) n lim π)
+of-best n lim π = go (bestChain n lim π)
   where
     go : (o : Option (List Part)) → OutcomeIn (refusalsOf best-line) (orNone n o)
     go none = tt

@@ -14,8 +14,7 @@ use lib.Dec.{T}
 use lib.ListN.{length, take, length-map}
 use Rattle.chains.specs.Chains.{Part, ChainOf}
 use Rattle.chains.specs.Listing.{count, position}
-use Rattle.chains.specs.Best.{Prices, Limits, price}
-use Rattle.chains.specs.BestOfAll.{bestOf}
+use Rattle.chains.specs.Best.{Prices, Limits, price, bestChain}
 use Rattle.chains.specs.Bounds.{parts-bound}
 use Rattle.chains.specs.Counts.{count-fits}
 use Rattle.chains.specs.PositionsOfChains.{at-position}
@@ -98,7 +97,7 @@ record-sound l = record { chain = λ n c e. record-gives l n c e .0; fits = λ n
 module _ (n : ℕ) (lim : Limits) (π : Prices) where
   by-best : (P : Outcome → Type 0) → P (refused 5) → ((c : List Part) → P (gives n c)) → P (bestOutcome n lim π)
   unfolding bestOutcome orNone
-  by-best P none-given given = go (bestOf (2 ^ 32) n lim π)
+  by-best P none-given given = go (bestChain n lim π)
     where
       go : (b : Option (List Part)) → P (orNone n b)
       go none = none-given
@@ -112,10 +111,10 @@ module _ (n : ℕ) (lim : Limits) (π : Prices) where
   best-five r =
       by-best (λ (o : Outcome). o ≡ refused r → r ≡ 5) (λ e. cc) (λ d e. let z : _≡_ {A = ℕ} 0 1 = cc in absurd (omega arith))
 
-pub best-sound : (n : ℕ) (lim : Limits) (π : Prices) → n < 2 ^ 64 → Cheap π → Sound (bestOutcome n lim π)
-best-sound n lim π f cheap =
+pub best-sound : (n : ℕ) (lim : Limits) (π : Prices) → n < 2 ^ 64 → Sound (bestOutcome n lim π)
+best-sound n lim π f =
     record {
-      chain = λ m c e. let same = best-number n lim π m c e in rw same (given-is-best lim f cheap c .0 (rw same at e) .chain);
+      chain = λ m c e. let same = best-number n lim π m c e in rw same (given-is-best n lim π c .0 (rw same at e) .chain);
       fits = λ m c e. omega (arith, best-number n lim π m c e);
     }
 
@@ -153,7 +152,7 @@ made count-line line = counted (count (field line 1 8)) refl refl
 made best-line line =
     let π = pricesIn line in
     priced (bestOutcome (field line 1 8) (limitsIn line) π) π refl
-    (best-sound (field line 1 8) (limitsIn line) π (number-low line 1) (prices-cheap line)) refl
+    (best-sound (field line 1 8) (limitsIn line) π (number-low line 1)) refl
 made at-line line =
     chained (atPosition (field line 1 8) (field line 9 8)) (at-sound (field line 1 8) (field line 9 8) (number-low line 1)) refl
 made record-line line = chained (ofRecord (itemsIn record-line line)) (record-sound (itemsIn record-line line)) refl
