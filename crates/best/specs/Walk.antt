@@ -11,8 +11,7 @@ use lib.ListN.{length, getD, take, drop}
 use Rattle.lent.specs.Lent.{scratchSize}
 use Rattle.chains.specs.Words.{Word}
 use Rattle.chains.specs.Keys.{bestAt}
-use Rattle.grid.specs.Grid.{Table}
-use Rattle.grid.specs.Rests.{restAt}
+use Rattle.grid.specs.Grid.{Table, restAt}
 use Rattle.best.specs.KeyTable.{noKey, costsBy, Low, keyCell}
 
 -- ---- the table and the best word

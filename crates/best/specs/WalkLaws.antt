@@ -13,12 +13,13 @@ use native.Mathlib.Omega.{arith}
 use lib.Dec.{T}
 use lib.Pow.{shr-le}
 use lib.ListN.{getD, set, drop, length-set, take-append-drop}
+use Rattle.grid.specs.Grid.{restAt}
 use Rattle.chains.specs.Chains.{Part}
 use Rattle.chains.specs.Words.{Word, origin, right, up}
 use Rattle.chains.specs.Members.{rises}
 use Rattle.chains.specs.Keys.{inside}
 use Rattle.chains.specs.Bests.{lead, keyA, keyB, third-left, best-one, least-step, take-a, take-b, least-told}
-use Rattle.grid.specs.Rests.{below-last-row, restAt, rest-origin, rest-right, rest-up, point-bounds}
+use Rattle.grid.specs.Rests.{below-last-row, rest-origin, rest-right, rest-up, point-bounds}
 use Rattle.grid.specs.Fill.{read-free, read-after-a}
 use Rattle.ranking.specs.Points.{drop-more, take-more, take-stored}
 use Rattle.best.specs.KeyTable.{noKey, letterBy, costsBy, keyCell, thirdKey}

@@ -1,7 +1,7 @@
 -- The count of n by its remainders: document 01, 'Counting by the remainder'; 003, relations 6 and 7 and proposition 4, with p = 2
 -- and q = 3.
 --
--- In this order: `ways`, how many words a reader can go on with at a rest; its step laws, with no list in them, one for each
+-- In this order: the step laws of `ways`, how many words a reader can go on with at a rest, with no list in them, one for each
 -- remainder by three; the bounds; the six relations of the count, the theorems of record.
 -- What the list of n holds is said in Members. The count itself is defined in Listing.
 use mathlib.Core.Path.{_≡_, refl, _∙_}
@@ -12,12 +12,8 @@ use Prim.Native.Nat.{ℕ, zero, suc, _+_, _*_, _-_, _/_, _%_, _^_, _≤_, _<_, m
 use lib.ListN.{length, length-append, length-map}
 use native.Mathlib.Omega.{arith}
 use Rattle.chains.specs.Words.{Word}
-use Rattle.chains.specs.Listing.{byThird, atRest, wordsIn, wordsAt, listOf, count, one-if}
+use Rattle.chains.specs.Listing.{byThird, atRest, wordsIn, wordsAt, ways, listOf, count, one-if}
 use Rattle.chains.specs.Steps.{by-rest, wordsAt-step}
-
--- How many words a reader can go on with at the rest m.
-unfoldable pub ways : Bool → ℕ → ℕ
-ways f m = length (wordsAt f m)
 
 -- The count of n is what the reader at the start can go on with.
 pub count-ways : (n : ℕ) → count n ≡ ways true n

@@ -47,6 +47,10 @@ wordsIn (suc k) f m =
 unfoldable pub wordsAt : Bool → ℕ → List Word
 wordsAt f m = wordsIn m f m
 
+-- How many words a reader can go on with at the rest m.
+unfoldable pub ways : Bool → ℕ → ℕ
+ways f m = length (wordsAt f m)
+
 -- The list of n, by words.
 unfoldable pub listOf : ℕ → List Word
 listOf n = wordsAt true n

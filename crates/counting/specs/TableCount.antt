@@ -6,10 +6,9 @@ use mathlib.Core.List.{List, [], _∷_, _++_}
 use Prim.Native.Nat.{ℕ, suc, _/_, _%_}
 use lib.Dec.{eqb, leb}
 use lib.ListN.{take, drop}
-use Rattle.chains.specs.Listing.{count}
-use Rattle.chains.specs.Counts.{ways}
+use Rattle.grid.specs.Grid.{restAt}
+use Rattle.chains.specs.Listing.{count, ways}
 use Rattle.lent.specs.Lent.{scratchSize, littleScratch}
-use Rattle.grid.specs.Rests.{restAt}
 use Rattle.counting.specs.declared.Counted.{Counted}
 use Rattle.counting.specs.declared.Counted.the-variants.{Count, Refused}
 

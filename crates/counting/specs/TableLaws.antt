@@ -14,12 +14,10 @@ use lib.ListN.{length, getD, List·getD-append, take, drop, take-append-drop, le
 use lib.Seq.{length-take-le, getD-take, getD-drop, drop-at, ext-getD}
 use borrow.Author.Tests.{le-leb, lt-leb}
 use borrow.Rule.Slice.PartMut.{midOf, putMid}
-use Rattle.chains.specs.Listing.{count}
-use Rattle.chains.specs.Counts.{ways}
+use Rattle.chains.specs.Listing.{count, ways}
 use Rattle.lent.specs.Lent.{zeros, scratchSize, littleScratch, scratchLeft}
 use Rattle.lent.specs.LentLaws.{cleared, scratch-little, scratch-enough, served-zeroed}
-use Rattle.grid.specs.Grid.{RowsKept}
-use Rattle.grid.specs.Rests.{restAt}
+use Rattle.grid.specs.Grid.{RowsKept, restAt}
 use Rattle.grid.specs.Fill.{read-free, read-after-a}
 use Rattle.counting.specs.declared.Counted.{Counted}
 use Rattle.counting.specs.declared.Counted.the-variants.{Count, Refused}

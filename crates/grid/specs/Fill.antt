@@ -16,8 +16,8 @@ use lib.Seq.{getD-set-same, getD-set-other, drop-set-lt, getD-drop, drop-drop}
 use borrow.Rule.Slice.PartMut.{midOf, putMid, same-len-mid}
 use Rattle.lent.specs.Parts.{part-lent, part-back, kept-behind}
 use Rattle.lent.specs.Lent.{scratchSize}
-use Rattle.grid.specs.Grid.{Meaning, Row, Table, RowAsked, RowFilled, RowsAsked, RowsFilled}
-use Rattle.grid.specs.Rests.{third-of-row, row-above, below-last-row, rest-dead, restAt}
+use Rattle.grid.specs.Grid.{Meaning, Row, Table, RowAsked, RowFilled, RowsAsked, RowsFilled, restAt}
+use Rattle.grid.specs.Rests.{third-of-row, row-above, below-last-row, rest-dead}
 
 -- The rows from i on can be asked for where those from b on can.
 pub rows-from : {b m i : ℕ} {l : List ℕ} → RowsAsked b m l → b ≤ i → i ≤ 41 → RowsAsked i (m / 3 ^ (i - b)) l

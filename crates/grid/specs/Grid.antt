@@ -2,7 +2,7 @@
 -- 01. Row b stands at 128 × b; in it, column a at 2 × a, the number of the reader at the start and after b has risen
 -- first, that of the reader after a has risen second.
 --
--- What a cell means is a function of its point, its reader and its rest. The rest at (a, b) is n / 3^b / 2^a.
+-- What a cell means is a function of its point, its reader and its rest.
 -- Definitions only: rows and tables that are right, then what the calls that fill them ask and leave. The laws by which a row and a
 -- table are filled and read are in Fill, those of rests in Rests, those of their remainders by three in Masks.
 use mathlib.Core.Path.{_≡_}
@@ -11,6 +11,10 @@ use mathlib.Core.List.{List}
 use Prim.Native.Nat.{ℕ, suc, _+_, _-_, _*_, _^_, _/_, _%_, _≤_, _<_}
 use lib.ListN.{length, getD, drop}
 use Rattle.lent.specs.Lent.{scratchSize}
+
+-- The rest at the point (a, b) of the table of n.
+abbrev pub restAt : ℕ → ℕ → ℕ → ℕ
+restAt n a b = n / 3 ^ b / 2 ^ a
 
 -- What a cell holds: of a, b, the reader and the rest.
 abbrev pub Meaning : Type 0

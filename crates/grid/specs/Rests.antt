@@ -28,6 +28,7 @@ use native.Mathlib.Omega.{arith}
 use native.Mathlib.Numerals.{add-one}
 use lib.Pow.{shr-shr, pow-mono, pow-pos}
 use Rattle.chains.specs.Chains.{Part, value}
+use Rattle.grid.specs.Grid.{restAt}
 use Rattle.chains.specs.Bounds.{part-bounds}
 
 pub half-of-rest : (m a : ℕ) → m / 2 ^ a / 2 ≡ m / 2 ^ suc a
@@ -54,10 +55,6 @@ below-last-row m b h k =
     lt-of-not-le (λ (g : 40 ≤ b). omega (arith, mul-le-mul k (pow-le-pow-right {n = 3} (omega arith) g)))
 
 -- ---- the rest at a point
-
--- The rest at the point (a, b) of the table of n.
-abbrev pub restAt : ℕ → ℕ → ℕ → ℕ
-restAt n a b = n / 3 ^ b / 2 ^ a
 
 pub rest-origin : (n : ℕ) → restAt n 0 0 ≡ n
 rest-origin n = omega arith

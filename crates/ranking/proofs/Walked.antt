@@ -11,13 +11,14 @@ use lib.Dec.{T}
 use lib.Ieee.Fits.{and-r}
 use lib.ListN.{length, length-set, getD, set, take, drop, length-drop, take-append-drop}
 use lib.Seq.{drop-cons}
+use Rattle.grid.specs.Grid.{restAt}
 use Rattle.chains.specs.Words.{Word, someLeft, reads}
-use Rattle.chains.specs.Listing.{wordsIn, atRest, byThird, wordsAt, listOf, count, countBefore}
+use Rattle.chains.specs.Listing.{wordsIn, atRest, byThird, wordsAt, listOf, count, countBefore, ways}
 use Rattle.chains.specs.Weight.{weight}
-use Rattle.chains.specs.Counts.{ways, count-ways, ways-at-0-free, ways-at-0-after-a, ways-at-most, ways-rem-2, count-fits}
+use Rattle.chains.specs.Counts.{count-ways, ways-at-0-free, ways-at-0-after-a, ways-at-most, ways-rem-2, count-fits}
 use Rattle.chains.specs.Members.{member-words}
 use Rattle.chains.specs.Positions.{words-at-position, word-at-position, position-rise-a, position-rise-b, word-rise-a, word-rise-b}
-use Rattle.grid.specs.Rests.{restAt, rest-origin, rest-right, rest-up, point-bounds}
+use Rattle.grid.specs.Rests.{rest-origin, rest-right, rest-up, point-bounds}
 use Rattle.grid.specs.Fill.{read-after-a}
 use Rattle.counting.specs.Table.{countCell}
 use Rattle.ranking.specs.Walks.{Tabled, Between, RankWalked, wordAt, WordWalked, WordRisen, WordFound}

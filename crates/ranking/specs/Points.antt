@@ -9,8 +9,9 @@ use native.Mathlib.Numerals.{add-one}
 use native.Mathlib.Omega.{arith}
 use lib.ListN.{length, set, take, drop}
 use lib.Seq.{drop-drop, take-add, take-suc-set}
+use Rattle.grid.specs.Grid.{restAt}
 use Rattle.chains.specs.Words.{Word}
-use Rattle.grid.specs.Rests.{restAt, rest-right, point-bounds}
+use Rattle.grid.specs.Rests.{rest-right, point-bounds}
 use Rattle.ranking.specs.Walks.{Between}
 
 -- ---- a point with a letter after it

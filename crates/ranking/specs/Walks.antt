@@ -10,10 +10,8 @@ use lib.Dec.{T}
 use lib.ListN.{length, getD, take, drop}
 use Rattle.lent.specs.Lent.{scratchSize}
 use Rattle.chains.specs.Words.{Word, reads}
-use Rattle.chains.specs.Listing.{wordsAt, listOf, count, countBefore}
-use Rattle.chains.specs.Counts.{ways}
-use Rattle.grid.specs.Grid.{Table}
-use Rattle.grid.specs.Rests.{restAt}
+use Rattle.chains.specs.Listing.{wordsAt, listOf, count, countBefore, ways}
+use Rattle.grid.specs.Grid.{Table, restAt}
 use Rattle.counting.specs.Table.{countCell}
 
 -- The count table of n stands in the scratch.

@@ -3,9 +3,8 @@
 ghost use mathlib.Core.Path.{_≡_};
 ghost use mathlib.Core.Bool.{false};
 ghost use Prim.Native.Nat.{_+_, _/_, _<_};
-ghost use Rattle.chains.specs.Listing.{listOf, countBefore};
-ghost use Rattle.chains.specs.Counts.{ways};
-ghost use Rattle.grid.specs.Rests.{restAt};
+ghost use Rattle.grid.specs.Grid.{restAt};
+ghost use Rattle.chains.specs.Listing.{listOf, countBefore, ways};
 ghost use Rattle.ranking.specs.Walks.{Tabled, Between, RankStart, RankStep, RankWalked};
 ghost use Rattle.ranking.specs.Walks.{WordStart, WordStep, WordRisen, WordFound};
 

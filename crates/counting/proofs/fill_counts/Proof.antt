@@ -6,13 +6,14 @@ use Prim.Native.Nat.{ℕ, _≤_}
 use native.Mathlib.Omega.{arith}
 use lib.ListN.{length}
 use borrow.Author.Needs.{needs}
+use Rattle.counting.specs.CellLaws.{count-in}
 use Rattle.counting.specs.TableLaws.{counted-served, counted-refused, table-refused, table-made}
 use Rattle.lent.specs.Lent.{scratchSize}
 use Rattle.grid.specs.Grid.{RowsKept}
 use Rattle.chains.specs.Listing.{count}
 use Rattle.chains.specs.Counts.{count-0}
 use Rattle.counting.specs.declared.Counted.the-variants.{Count}
-use Rattle.counting.specs.Table.{CountsIn, count-in}
+use Rattle.counting.specs.Table.{CountsIn}
 use Rattle.counting.specs.TableCount.{countedOf, tableLeft}
 use Rattle.counting.proofs.fill_counts.Statement.{statement}
 use Rattle.counting.proofs.fill_counts.Tie as tie

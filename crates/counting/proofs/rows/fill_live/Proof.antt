@@ -9,14 +9,16 @@ use native.Mathlib.Omega.{arith}
 use borrow.Author.Needs.{needs}
 use lib.ListN.{length, getD, set, length-set}
 use lib.Pow.{shr-le}
+use Rattle.counting.specs.CellLaws.{cell-at-1, cell-after-a, cell-free}
+use Rattle.chains.specs.Listing.{ways}
 use Rattle.grid.specs.Grid.{RowAsked, RowFilled, RowKept}
 use Rattle.grid.specs.Rests.{half-of-rest, third-of-rest}
 use Rattle.grid.specs.Masks.{onesOf, zerosOf}
 use Rattle.grid.specs.MaskLaws.{ones-bit, zeros-bit}
 use Rattle.grid.specs.Fill.{column, asked-still, read-above}
 use Rattle.grid.specs.Kept.{kept-none, kept-column}
-use Rattle.chains.specs.Counts.{ways, ways-at-most}
-use Rattle.counting.specs.Table.{countCell, LiveAsked, cell-at-1, cell-after-a, cell-free}
+use Rattle.chains.specs.Counts.{ways-at-most}
+use Rattle.counting.specs.Table.{countCell, LiveAsked}
 use Rattle.counting.proofs.rows.fill_live.Statement.{statement}
 use Rattle.counting.proofs.rows.fill_live.Tie as tie
 use Rattle.counting.proofs.rows.fill_live.Reads as reads

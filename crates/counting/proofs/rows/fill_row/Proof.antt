@@ -7,12 +7,13 @@ use Prim.Native.Nat.{ℕ, suc, _+_, _*_, _^_, _/_, _-_, _≤_, _<_}
 use native.Mathlib.Omega.{arith}
 use borrow.Author.Needs.{needs}
 use lib.ListN.{set, length-set}
+use Rattle.counting.specs.CellLaws.{cell-at-1}
+use Rattle.chains.specs.Listing.{ways}
 use Rattle.grid.specs.Grid.{RowAsked, RowFilled, RowKept}
 use Rattle.grid.specs.Rests.{rest-at-top}
 use Rattle.grid.specs.Fill.{dead-columns, column, filled-on, asked-still}
 use Rattle.grid.specs.Kept.{kept-none, kept-column, kept-on}
-use Rattle.chains.specs.Counts.{ways}
-use Rattle.counting.specs.Table.{countCell, LiveAsked, cell-at-1}
+use Rattle.counting.specs.Table.{countCell, LiveAsked}
 use Rattle.counting.proofs.rows.fill_row.Statement.{statement}
 use Rattle.counting.proofs.rows.fill_row.Tie as tie
 

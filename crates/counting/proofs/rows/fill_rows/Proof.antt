@@ -3,10 +3,11 @@
 use Prim.Native.Nat.{_-_}
 use native.Mathlib.Omega.{arith}
 use borrow.Author.Needs.{needs}
+use Rattle.counting.specs.CellLaws.{asked-of-any, filled-of-any}
 use Rattle.grid.specs.Fill.{RowsDown, down-none, down-room, down-lent, down-more, down-all}
 use Rattle.grid.specs.Grid.{RowsKept}
 use Rattle.grid.specs.Kept.{kept-no-row, kept-row}
-use Rattle.counting.specs.Table.{countCell, asked-of-any, filled-of-any}
+use Rattle.counting.specs.Table.{countCell}
 use Rattle.counting.proofs.rows.fill_rows.Statement.{statement}
 use Rattle.counting.proofs.rows.fill_rows.Tie as tie
 
