@@ -22,15 +22,14 @@ use Rattle.ranking.specs.declared.Found.the-variants as found
 use Rattle.digits.specs.Digits.{digitsOf}
 use Rattle.digits.specs.DigitLaws.{length-digits}
 use Rattle.lines.specs.Kinds.{Kind, rowOf}
-use Rattle.lines.specs.Lines.{itemsIn, readItems, itemsCode, itemsLeft, Fit}
+use Rattle.lines.specs.Lines.{itemsIn, Fit, Items, unread, read, readItems, itemsCode, itemsLeft}
 use Rattle.lines.specs.LineLaws.{items-fit}
-use Rattle.lines.specs.declared.Items.{Items}
 use Rattle.lines.specs.declared.Items.the-variants as told
 use Rattle.frames.specs.Put.{putAt}
 use Rattle.frames.specs.PutLaws.{at-start, put-filled}
 use Rattle.frames.specs.ReplyDigits.{chainDigits}
 use Rattle.frames.specs.Replies.{refusedAs, servedWith, digitsIn, chainReply, repliedOf}
-use Rattle.frames.specs.Calls.{Told, Handled, partsIn, foundReply}
+use Rattle.frames.specs.Calls.{Told, Handled, partsIn, foundReply, readOnly}
 use Rattle.frames.specs.declared.Replied.{Replied}
 use Rattle.frames.specs.declared.Replied.the-variants as replied
 
@@ -52,32 +51,35 @@ module _ (k : ℕ) (l₀ l m : List ℕ) (room : 514 ≤ length l₀) (short : k
 
 -- ---- the items of a line
 
--- The items of a fit line were to be read into as many places, and x was answered.
-module _ (k : Kind) (line : List ℕ) (places : ℕ) (x : Items) (fits : Fit line k)
-    (e : x ≡ itemsCode (readItems (rowOf k .width) line places))
-    (room : 255 ≤ places) where
-  own-items : x ≡ told.Read (length (itemsIn k line))
-  unfolding itemsCode
-  own-items = rw (items-fit line places k fits room) at e
+-- Their number, and nothing where they are not read.
+pub read-number : (a : Items) → (n : ℕ) → itemsCode a ≡ told.Read n → n ≡ length (readOnly a)
+unfolding itemsCode readOnly
+read-number (unread r) n e = let z : _≡_ {A = ℕ} 0 1 = cc in absurd (omega arith)
+read-number (read xs) n e = cc
 
-  pub not-refused : (r : ℕ) → x ≡ told.Refused r → ⊥
-  not-refused r f = let z : _≡_ {A = ℕ} 0 1 = cc own-items in omega arith
+pub read-refused : (a : Items) → (r : ℕ) → itemsCode a ≡ told.Refused r → 0 ≡ length (readOnly a)
+unfolding itemsCode readOnly
+read-refused (unread q) r e = refl
+read-refused (read xs) r e = let z : _≡_ {A = ℕ} 0 1 = cc in absurd (omega arith)
 
-  -- So they were read into l, which held `entry` before.
-  module _ (n : ℕ) (g : x ≡ told.Read n) (entry l : List ℕ) (f : l ≡ itemsLeft (readItems (rowOf k .width) line places) entry) where
-    number : n ≡ length (itemsIn k line)
-    number = cc own-items
+-- The n items of a fit line were read into l, which held `entry` before.
+module _ (k : Kind) (line : List ℕ) (places n : ℕ) (fits : Fit line k)
+    (e : n ≡ length (readOnly (readItems (rowOf k .width) line places)))
+    (room : 255 ≤ places) (entry l : List ℕ) (f : l ≡ itemsLeft (readItems (rowOf k .width) line places) entry) where
+  number : n ≡ length (itemsIn k line)
+  unfolding readOnly
+  number = rw (items-fit line places k fits room) at e
 
-    left : l ≡ itemsIn k line ++ drop (length (itemsIn k line)) entry
-    unfolding itemsLeft
-    left = rw (items-fit line places k fits room) at f
+  left : l ≡ itemsIn k line ++ drop (length (itemsIn k line)) entry
+  unfolding itemsLeft
+  left = rw (items-fit line places k fits room) at f
 
-    -- The array keeps its length, so all of them stand in it.
-    pub read-room : length l ≡ places → length entry ≡ places → n ≤ places
-    read-room h d = omega (arith, number, simp (left, length-append, length-drop) at h)
+  -- The array keeps its length, so all of them stand in it.
+  pub read-room : length l ≡ places → length entry ≡ places → n ≤ places
+  read-room h d = omega (arith, number, simp (left, length-append, length-drop) at h)
 
-    pub read-all : take (n - 0) l ≡ itemsIn k line
-    read-all = rw (sub-zero, number, left, take-append-seam)
+  pub read-all : take (n - 0) l ≡ itemsIn k line
+  read-all = rw (sub-zero, number, left, take-append-seam)
 
 -- ---- enough is lent to a service
 

@@ -1,6 +1,6 @@
 -- The calls that serve a line: what they ask for and what they leave.
 --
--- In this order: the reply and the scratch; a chain that a service found.
+-- In this order: the reply and the scratch; a chain that a service found; the items of a line.
 -- Definitions only. How the answers of the services lead to the reply is in proofs/CallLaws.
 use mathlib.Core.Path.{_≡_}
 use mathlib.Core.List.{List, []}
@@ -9,7 +9,7 @@ use lib.ListN.{length, take}
 use Rattle.lent.specs.Lent.{filled, scratchSize}
 use Rattle.ranking.specs.declared.Found.{Found}
 use Rattle.ranking.specs.declared.Found.the-variants as found
-use Rattle.lines.specs.Lines.{shapeOf, shapeCode}
+use Rattle.lines.specs.Lines.{shapeOf, shapeCode, Items, unread, read}
 use Rattle.lines.specs.declared.Shape.the-variants as shape
 use Rattle.frames.specs.ReplyDigits.{chainDigits}
 use Rattle.frames.specs.Replies.{Reply, refusedAs, servedWith, digitsIn, repliedOf}
@@ -42,3 +42,10 @@ partsIn (found.Refused r) = 0
 unfoldable pub foundReply : Found → List ℕ → Reply
 foundReply (found.Chain n i k) places = servedWith (chainDigits n i (take k places))
 foundReply (found.Refused r) places = refusedAs r
+
+-- ---- the items of a line
+
+-- The items that were read, and none where they were not.
+unfoldable pub readOnly : Items → List ℕ
+readOnly (unread r) = []
+readOnly (read xs) = xs

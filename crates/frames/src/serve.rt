@@ -8,13 +8,14 @@ use counting::Counted;
 use lines::Items;
 use ranking::Placed;
 ghost use mathlib.Core.Path.{_≡_};
+ghost use lib.ListN.{length};
 ghost use Rattle.lent.specs.Lent.{tooLittle, Enough, scratchLeft};
 ghost use Rattle.ranking.specs.Services.{lent, placesLeft};
 ghost use Rattle.best.specs.Chosen.{bestOutcome, chosenOf};
-ghost use Rattle.frames.specs.Calls.{Handled, FitAs};
+ghost use Rattle.frames.specs.Calls.{Handled, FitAs, readOnly};
 ghost use Rattle.frames.specs.Replies.{refusedAs, limitsIn, pricesIn, served, replyTo};
 ghost use Rattle.lines.specs.Kinds.{count-line, best-line, at-line, record-line, word-line, next-line};
-ghost use Rattle.lines.specs.Lines.{Fit};
+ghost use Rattle.lines.specs.Lines.{Fit, readItems, itemsLeft};
 
 // A line that is refused: the scratch is zeroed as on success.
 pub fn serve_refusal(number: u8, scratch: &mut [u64], out: &mut [u8]) -> Replied
@@ -98,6 +99,29 @@ pub fn serve_at(line: &[u8], scratch: &mut [u64], out: &mut [u8]) -> Replied
     tell::tell_found(out, found, &places)
 }
 
+// The letters and the part numbers of a line, and how many there are: all, where the line is fit and 255 places are lent.
+fn letters_in(line: &[u8], letters: &mut [u8]) -> usize
+    ensures { λ k. ⌜ k ≡ length (readOnly (readItems 1 (now (line .entry)) (length (now (letters .entry))))) ⌝ }
+    ensures { λ _. ⌜ now (letters .exit)
+        ≡ itemsLeft (readItems 1 (now (line .entry)) (length (now (letters .entry)))) (now (letters .entry)) ⌝ }
+{
+    match lines::letters_of(line, letters) {
+        Items::Read(k) => k,
+        Items::Refused(_) => 0,
+    }
+}
+
+fn numbers_in(line: &[u8], numbers: &mut [u16]) -> usize
+    ensures { λ k. ⌜ k ≡ length (readOnly (readItems 2 (now (line .entry)) (length (now (numbers .entry))))) ⌝ }
+    ensures { λ _. ⌜ now (numbers .exit)
+        ≡ itemsLeft (readItems 2 (now (line .entry)) (length (now (numbers .entry)))) (now (numbers .entry)) ⌝ }
+{
+    match lines::numbers_of(line, numbers) {
+        Items::Read(k) => k,
+        Items::Refused(_) => 0,
+    }
+}
+
 // 04: a burned record. The reply repeats its part numbers.
 pub fn serve_record(line: &[u8], scratch: &mut [u64], out: &mut [u8]) -> Replied
     requires { ⌜ Enough 514 (now scratch) (now out) × Fit (now line) record-line ⌝ }
@@ -105,12 +129,10 @@ pub fn serve_record(line: &[u8], scratch: &mut [u64], out: &mut [u8]) -> Replied
         (now (scratch .entry)) (now (scratch .exit)) (now (out .entry)) (now (out .exit)) ⌝ }
 {
     let mut numbers = [0u16; 255];
-    match lines::numbers_of(line, &mut numbers) {
-        Items::Read(k) => match ranking::read_record(&numbers[0..k], scratch) {
-            Placed::At { n, position } => tell::tell_chain(out, n, position, &numbers[0..k]),
-            Placed::Refused(number) => tell::tell_refusal(out, number),
-        },
-        Items::Refused(number) => serve_refusal(number, scratch, out),
+    let k = numbers_in(line, &mut numbers);
+    match ranking::read_record(&numbers[0..k], scratch) {
+        Placed::At { n, position } => tell::tell_chain(out, n, position, &numbers[0..k]),
+        Placed::Refused(number) => tell::tell_refusal(out, number),
     }
 }
 
@@ -121,14 +143,10 @@ pub fn serve_word(line: &[u8], scratch: &mut [u64], out: &mut [u8]) -> Replied
         (now (scratch .entry)) (now (scratch .exit)) (now (out .entry)) (now (out .exit)) ⌝ }
 {
     let mut letters = [0u8; 255];
-    match lines::letters_of(line, &mut letters) {
-        Items::Read(k) => {
-            let mut places = [0u16; 64];
-            let found = ranking::read_word(&letters[0..k], scratch, &mut places);
-            tell::tell_found(out, found, &places)
-        }
-        Items::Refused(number) => serve_refusal(number, scratch, out),
-    }
+    let k = letters_in(line, &mut letters);
+    let mut places = [0u16; 64];
+    let found = ranking::read_word(&letters[0..k], scratch, &mut places);
+    tell::tell_found(out, found, &places)
 }
 
 // 06: the chain after a word's.
@@ -138,14 +156,10 @@ pub fn serve_next(line: &[u8], scratch: &mut [u64], out: &mut [u8]) -> Replied
         (now (scratch .entry)) (now (scratch .exit)) (now (out .entry)) (now (out .exit)) ⌝ }
 {
     let mut letters = [0u8; 255];
-    match lines::letters_of(line, &mut letters) {
-        Items::Read(k) => {
-            let mut places = [0u16; 64];
-            let found = ranking::next_chain(&letters[0..k], scratch, &mut places);
-            tell::tell_found(out, found, &places)
-        }
-        Items::Refused(number) => serve_refusal(number, scratch, out),
-    }
+    let k = letters_in(line, &mut letters);
+    let mut places = [0u16; 64];
+    let found = ranking::next_chain(&letters[0..k], scratch, &mut places);
+    tell::tell_found(out, found, &places)
 }
 
 // A fit line, by the byte of its kind.

@@ -1,5 +1,6 @@
-// A line of hexadecimal before it is served: its fields, its kind, and whether it is refused by its shape. Document 01, 'Frames'
-// and 'What a refused line or call gets'. A line is its characters, without the byte 10. Every function here takes any input.
+// A line of hexadecimal before it is served: its fields, its kind, whether it is refused by its shape, and its items. Document 01,
+// 'Frames' and 'What a refused line or call gets'. A line is its characters, without the byte 10. Every public function here takes
+// any input.
 ghost use mathlib.Core.Path.{_≡_};
 ghost use mathlib.Core.List.{_++_};
 ghost use Prim.Native.Nat.{_+_, _*_, _%_, _^_, _≤_, _<_};
@@ -22,14 +23,14 @@ pub enum Items {
 }
 
 // How a line of a kind is laid out: how many bytes stand before its items, which byte holds their number, and how many bytes an
-// item has. No byte stands before anything where there is no such kind.
+// item has. A kind without items has width 0, and all its bytes stand before them. All three are 0 where there is no such kind.
 struct Row {
     before: usize,
     at: usize,
     width: usize,
 }
 
-// Where the items of a line stand: the first of them at a byte, and their number; or the number of the refusal.
+// Where the items of a line stand: the byte of the first and how many there are; or the number of the refusal.
 enum Span {
     At { from: usize, count: usize },
     Refused(u8),
@@ -78,7 +79,7 @@ fn row_with(before: usize, at: usize, width: usize) -> Row
     Row { before, at, width }
 }
 
-// The row of a kind by its byte. The one place of the code that says which kinds there are.
+// The row of a kind by its byte: `before`, `at`, `width`. The one place of the code that says which kinds there are.
 fn row_of(kind: u8) -> Row
     ensures { λ r. ⌜ r ≡ rowFor (kindOf kind) ⌝ }
 {
@@ -142,7 +143,7 @@ fn pair_from(a: u8, b: u8, c: u8, d: u8) -> u16
     (4096 * digit(a) + 256 * digit(b) + 16 * digit(c) + digit(d)) as u16
 }
 
-// Where the items of `width` bytes stand in a line, and how many there are, where they are read into so many places.
+// Where the items of `width` bytes stand in a line, and how many there are; or why they cannot be read into that many places.
 fn span_of(line: &[u8], width: usize, places: usize) -> Span
     requires { ⌜ 0 < width ⌝ }
     ensures { λ r. ⌜ spanItems width (now (line .entry)) r ≡ readItems width (now (line .entry)) places ⌝ }
@@ -167,7 +168,7 @@ fn span_of(line: &[u8], width: usize, places: usize) -> Span
 
 // Values of one byte each, `count` of them from byte `from` on, at the start of `letters`.
 fn read_bytes(line: &[u8], from: usize, count: usize, letters: &mut [u8])
-    requires { ⌜ (2 * (from + 1 * count) ≤ length (now line)) × (count ≤ length (now letters)) ⌝ }
+    requires { ⌜ (2 * (from + count) ≤ length (now line)) × (count ≤ length (now letters)) ⌝ }
     ensures { λ _. ⌜ now (letters .exit) ≡ fields (now (line .entry)) from 1 count ++ drop count (now (letters .entry)) ⌝ }
 {
     let mut i = 0;

@@ -1,4 +1,5 @@
 -- `letters_of` writes the items that stand where `span_of` says, or nothing where it refuses.
+use native.Mathlib.Omega.{arith}
 use borrow.Author.Needs.{needs}
 use Rattle.lines.proofs.CallLaws.{span-room, span-read, span-refused}
 use Rattle.lines.proofs.letters_of.Statement.{statement}
@@ -8,7 +9,8 @@ read-bytes-requires : tie.Need-read-bytes-requires
 read-bytes-requires c κs =
     let f = c .before .before in
     let p = f .before .before in
-    span-room 1 _ _ _ _ _ (f .from .given .1) (p .span-of .ensures .1)
+    let r = span-room 1 _ _ _ _ _ (f .from .given .1) (p .span-of .ensures .1) in
+    (omega arith, r .1)
 
 returns : tie.Need-returns
 returns c =

@@ -1,29 +1,28 @@
--- `serve_next` replies with the chain after that of the word that stands in the line: the letters of a fit line are all read.
+-- `serve_next` replies with the chain after that of the word that stands in the line.
 use mathlib.Core.Path.{refl}
 use native.Mathlib.Omega.{arith}
 use borrow.Author.Needs.{needs}
 use Rattle.lines.specs.Kinds.{next-line, rowOf}
 use Rattle.frames.specs.Replies.{served}
-use Rattle.frames.proofs.CallLaws.{not-refused, read-room, read-all, found-fits, found-handled}
+use Rattle.frames.proofs.CallLaws.{read-room, read-all, found-fits, found-handled}
 use Rattle.frames.proofs.serve.serve_next.Statement.{statement}
 use Rattle.frames.proofs.serve.serve_next.Tie as tie
 
 part-next-chain-end : tie.Need-part-next-chain-end
 unfolding rowOf
 part-next-chain-end c =
-    let m = c .before .before in
-    let l = m .before .before .before in
+    let l = c .before .before in
     let s = l .before .before .before .before .before in
     omega (
       arith,
-      read-room next-line _ _ _ (s .pre .1) (l .letters-of .ensures .0) (omega arith) _ (m .k .given .1) _ _
-          (l .letters-of .ensures .1) (omega arith) (omega arith),
+      read-room next-line _ _ _ (s .pre .1) (l .letters-in .ensures .0) (omega arith) _ _ (l .letters-in .ensures .1)
+          (omega arith) (omega arith),
     )
 
 tell-found-requires : tie.Need-tell-found-requires
 tell-found-requires c κs =
     let q = c .before .before .before .before .before in
-    let s = q .before .before .before .before .before .before .before .before .before .before .before .before .before .before in (
+    let s = q .before .before .before .before .before .before .before .before .before .before .before in (
       omega arith,
       found-fits _ _ _ _ _ (s .pre .0 .numbers) refl (q .next-chain .ensures .0) (q .next-chain .ensures .1 .0)
           (omega arith),
@@ -35,22 +34,12 @@ unfolding served rowOf
 returns c =
     let t = c .before .before in
     let q = t .before .before .before .before .before .before in
-    let m = q .before .before .before .before .before .before in
-    let l = m .before .before .before in
+    let l = q .before .before .before .before .before .before in
     let s = l .before .before .before .before .before in
-    let w = read-all next-line _ _ _ (s .pre .1) (l .letters-of .ensures .0) (omega arith) _ (m .k .given .1) _ _
-    (l .letters-of .ensures .1) in
+    let w = read-all next-line _ _ _ (s .pre .1) (l .letters-in .ensures .0) (omega arith) _ _ (l .letters-in .ensures .1) in
     rw (← w)
     (found-handled _ _ _ _ _ (s .pre .0 .numbers) refl (q .next-chain .ensures .0) (q .next-chain .ensures .1 .0) (omega arith) _
     (q .next-chain .ensures .1 .1) (t .tell-found .ensures))
-
-returns-2 : tie.Need-returns-2
-unfolding rowOf
-returns-2 c =
-    let m = c .before .before .before .before .before .before .before .before in
-    let l = m .before .before .before in
-    let s = l .before .before .before .before .before in
-    absurd (not-refused next-line _ _ _ (s .pre .1) (l .letters-of .ensures .0) (omega arith) _ (m .number .given .1))
 
 pub serve-next-spec : {M : Type 1} → statement M
 serve-next-spec =
@@ -60,17 +49,11 @@ serve-next-spec =
     (λ c κs. search needs)
     (λ c. search needs)
     (λ c. search needs)
-    (λ c. search needs)
     part-next-chain-end
     (λ c. search needs)
     (λ c κs. search needs)
     (λ c. search needs)
     tell-found-requires
     (λ c. search needs)
-    (λ c κs. search needs)
     (λ c. search needs)
-    (λ c. search needs)
-    returns
-    (λ c. search needs)
-    (λ c. search needs)
-    returns-2)
+    returns)

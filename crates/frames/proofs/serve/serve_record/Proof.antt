@@ -21,7 +21,7 @@ use Rattle.frames.specs.ReplyDigits.{chainDigits}
 use Rattle.frames.specs.Replies.{Reply, refusedAs, servedWith, chainReply, served}
 use Rattle.frames.specs.Calls.{Told, Handled}
 use Rattle.frames.specs.declared.Replied.{Replied}
-use Rattle.frames.proofs.CallLaws.{not-refused, read-room, read-all}
+use Rattle.frames.proofs.CallLaws.{read-room, read-all}
 use Rattle.frames.proofs.serve.serve_record.Statement.{statement}
 use Rattle.frames.proofs.serve.serve_record.Tie as tie
 
@@ -67,32 +67,30 @@ module _ (l s : List ℕ) (x : Placed) (room : scratchSize ≤ length s) (e : x 
 part-read-record-end : tie.Need-part-read-record-end
 unfolding rowOf
 part-read-record-end c =
-    let m = c .before .before in
-    let l = m .before .before .before in
+    let l = c .before .before in
     let s = l .before .before .before .before .before in
     omega (
       arith,
-      read-room record-line _ _ _ (s .pre .1) (l .numbers-of .ensures .0) (omega arith) _ (m .k .given .1) _ _
-          (l .numbers-of .ensures .1) (omega arith) (omega arith),
+      read-room record-line _ _ _ (s .pre .1) (l .numbers-in .ensures .0) (omega arith) _ _ (l .numbers-in .ensures .1)
+          (omega arith) (omega arith),
     )
 
 part-tell-chain-end : tie.Need-part-tell-chain-end
 unfolding rowOf
 part-tell-chain-end c =
-    let m = c .before .before .before .before .before .before .before .before .before .before .before .before in
-    let l = m .before .before .before in
+    let l = c .before .before .before .before .before .before .before .before .before .before .before .before in
     let s = l .before .before .before .before .before in
     omega (
       arith,
-      read-room record-line _ _ _ (s .pre .1) (l .numbers-of .ensures .0) (omega arith) _ (m .k .given .1) _ _
-          (l .numbers-of .ensures .1) (omega arith) (omega arith),
+      read-room record-line _ _ _ (s .pre .1) (l .numbers-in .ensures .0) (omega arith) _ _ (l .numbers-in .ensures .1)
+          (omega arith) (omega arith),
     )
 
 tell-chain-requires : tie.Need-tell-chain-requires
 tell-chain-requires c κs =
     let m = c .before .before .before .before in
     let q = m .before .before .before .before in
-    let s = q .before .before .before .before .before .before .before .before .before .before .before .before .before in
+    let s = q .before .before .before .before .before .before .before .before .before .before in
     (omega arith, at-position _ (s .args .scratch .now) _ (s .pre .0 .numbers) (q .read-record .ensures .0) _ _ (m .n .given .1) .0)
 
 returns : tie.Need-returns
@@ -101,11 +99,9 @@ returns c =
     let t = c .before .before in
     let m = t .before .before .before .before .before in
     let q = m .before .before .before .before in
-    let k = q .before .before .before .before .before in
-    let l = k .before .before .before in
+    let l = q .before .before .before .before .before in
     let s = l .before .before .before .before .before in
-    let w = read-all record-line _ _ _ (s .pre .1) (l .numbers-of .ensures .0) (omega arith) _ (k .k .given .1) _ _
-    (l .numbers-of .ensures .1) in
+    let w = read-all record-line _ _ _ (s .pre .1) (l .numbers-in .ensures .0) (omega arith) _ _ (l .numbers-in .ensures .1) in
     rw (← w)
     (handled _ _ _ (s .pre .0 .numbers) (q .read-record .ensures .0) _ _ _ _ _
     (at-position _ (s .args .scratch .now) _ (s .pre .0 .numbers) (q .read-record .ensures .0) _ _ (m .n .given .1) .1)
@@ -117,23 +113,13 @@ returns-2 c =
     let t = c .before .before in
     let m = t .before .before .before in
     let q = m .before .before .before .before in
-    let k = q .before .before .before .before .before in
-    let l = k .before .before .before in
+    let l = q .before .before .before .before .before in
     let s = l .before .before .before .before .before in
-    let w = read-all record-line _ _ _ (s .pre .1) (l .numbers-of .ensures .0) (omega arith) _ (k .k .given .1) _ _
-    (l .numbers-of .ensures .1) in
+    let w = read-all record-line _ _ _ (s .pre .1) (l .numbers-in .ensures .0) (omega arith) _ _ (l .numbers-in .ensures .1) in
     rw (← w)
     (handled _ _ _ (s .pre .0 .numbers) (q .read-record .ensures .0) _ _ _ _ _
     (not-placed _ (s .args .scratch .now) _ (s .pre .0 .numbers) (q .read-record .ensures .0) _ (m .number .given .1))
     (q .read-record .ensures .1) (t .tell-refusal .ensures))
-
-returns-3 : tie.Need-returns-3
-unfolding rowOf
-returns-3 c =
-    let m = c .before .before .before .before .before .before .before .before in
-    let l = m .before .before .before in
-    let s = l .before .before .before .before .before in
-    absurd (not-refused record-line _ _ _ (s .pre .1) (l .numbers-of .ensures .0) (omega arith) _ (m .number2 .given .1))
 
 pub serve-record-spec : {M : Type 1} → statement M
 serve-record-spec =
@@ -141,7 +127,6 @@ serve-record-spec =
     (tie.spec
     (λ c. search needs)
     (λ c κs. search needs)
-    (λ c. search needs)
     (λ c. search needs)
     (λ c. search needs)
     part-read-record-end
@@ -154,13 +139,8 @@ serve-record-spec =
     (λ c. search needs)
     (λ c κs. search needs)
     (λ c. search needs)
-    (λ c κs. search needs)
-    (λ c. search needs)
     (λ c. search needs)
     returns
     (λ c. search needs)
     (λ c. search needs)
-    returns-2
-    (λ c. search needs)
-    (λ c. search needs)
-    returns-3)
+    returns-2)
