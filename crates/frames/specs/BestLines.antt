@@ -20,7 +20,7 @@ use Rattle.best.specs.Demand3.{given-is-best, refused-none}
 use Rattle.digits.specs.Digits.{digitsOf}
 use Rattle.lines.specs.Kinds.{best-line}
 use Rattle.lines.specs.Lines.{field, fit, shapeOf}
-use Rattle.frames.specs.ReplyDigits.{chainDigits, pricedDigits}
+use Rattle.frames.specs.ReplyDigits.{chainDigits, pricedDigits, headBytes}
 use Rattle.frames.specs.ReadBack.{ChainRead, price-read}
 use Rattle.frames.specs.Replies.{refusedAs, servedWith, pricedReply, limitsIn, pricesIn, served, replyTo}
 use Rattle.frames.specs.ReplyLaws.{reply-fit, best-number, best-five, number-low, prices-cheap, reply-read}
@@ -87,7 +87,7 @@ module _ (line : List ℕ) (f : shapeOf line ≡ fit best-line) where
 
 module _ (line ds : List ℕ) (b : BestReply line ds) where
   pub best-read : ChainRead (field line 1 8) (position (field line 1 8) (b .chain)) (map partNumber (b .chain)) ds
-      × (field ds (18 + 2 * length (map partNumber (b .chain))) 4 ≡ price (pricesIn line) (b .chain))
+      × (field ds (headBytes + 2 * length (map partNumber (b .chain))) 4 ≡ price (pricesIn line) (b .chain))
   unfolding pricedDigits
   best-read =
       let n = field line 1 8 in
