@@ -18,7 +18,7 @@ pub record ChoosingAsked (scratch letters : List ℕ) : Type 0 where
   pub size : scratchSize ≤ length scratch
   pub room : 64 ≤ length letters
 
--- The scratch was used: what stands behind its first 5,248 is as it was.
+-- The scratch was used: what stands behind its first `scratchSize` is as it was.
 pub record Used (entry exit : List ℕ) : Type 0 where
   pub same : length exit ≡ length entry
   pub later : drop scratchSize exit ≡ drop scratchSize entry

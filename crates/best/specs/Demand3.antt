@@ -7,7 +7,7 @@ use mathlib.Core.Path.{_≡_, refl, sym, ap}
 use mathlib.Core.Logic.{_↔_}
 use mathlib.Core.List.{List, [], _∷_, map}
 use mathlib.Core.Option.{Option, none, some}
-use Prim.Native.Nat.{ℕ, _^_, _≤_, _<_, min}
+use Prim.Native.Nat.{ℕ, _^_, _<_, min}
 use native.Mathlib.Omega.{arith}
 use lib.ListN.{length}
 use Rattle.lent.specs.Lent.{filled, Enough}
@@ -90,7 +90,7 @@ module _ (n : ℕ) (lim : Limits) (π : Prices) where
 
 -- ---- the number 0
 
--- The empty chain, whatever the limits and the prices.
+-- The empty chain, for all limits and prices.
 pub zero-given : (lim : Limits) (π : Prices) → bestOutcome 0 lim π ≡ gives 0 []
 unfolding bestOutcome orNone
 zero-given lim π = rw (best-of-zero lim π)

@@ -16,7 +16,7 @@ use Rattle.chains.specs.Words.{chainOf, reads}
 use Rattle.chains.specs.Chains.{total}
 use Rattle.chains.specs.Best.{Prices, Limits, bestChain}
 use Rattle.lent.specs.Lent.{zeros, filled, scratchSize, scratchLeft, tooLittle, Enough}
-use Rattle.lent.specs.LentLaws.{cleared, enough, left-zeroed}
+use Rattle.lent.specs.LentLaws.{cleared, enough-zeroed}
 use Rattle.parts.specs.Parts.{partNumber}
 use Rattle.ranking.specs.Services.{Outcome, gives, lent, answerOf, placesLeft, ofWord}
 use Rattle.ranking.specs.RoundTrips.{lent-all}
@@ -26,10 +26,6 @@ use Rattle.best.specs.declared.Chosen.the-variants.{Chain, Refused}
 use Rattle.best.specs.Chosen.{orNone, bestOutcome, chosenOf}
 use Rattle.best.specs.Choosing.{Used, WordChosen}
 use Rattle.best.specs.Placing.{PlacingAsked, placedOf}
-
--- Enough is lent: the scratch is zeroed.
-scratch-zeroed : (s p : List ℕ) → Enough 64 s p → scratchLeft (tooLittle 64 s p) s ≡ filled scratchSize [] s
-scratch-zeroed s p h = left-zeroed (tooLittle 64 s p) s (enough 64 s p h)
 
 -- ---- reading a word that may be placed
 
@@ -57,7 +53,7 @@ module _ {w s p : List ℕ} (h : PlacingAsked w s p) where
       → (p′ ≡ placesLeft (lent s p (ofWord w)) p) × (s′ ≡ scratchLeft (tooLittle 64 s p) s)
       → (p′ ≡ filled 64 (map partNumber (chainOf w)) p) × (s′ ≡ filled scratchSize [] s)
   unfolding placesLeft
-  left-placed e = (e .0 ∙ rw read, e .1 ∙ scratch-zeroed s p (h .room))
+  left-placed e = (e .0 ∙ rw read, e .1 ∙ enough-zeroed 64 s p (h .room))
 
 -- ---- at a return of the best chain
 
@@ -78,7 +74,7 @@ module _ (π : Prices) (n : ℕ) (lim : Limits) {s p : List ℕ} (h : Enough 64 
       → Served π (bestOutcome n lim π) s p (Refused 5) p (putMid 0 scratchSize l ys)
   unfolding bestOutcome orNone chosenOf placesLeft
   none-served {l} {ys} u e z =
-      rw (lent-all s p (bestOutcome n lim π) h, scratch-zeroed s p h, e)
+      rw (lent-all s p (bestOutcome n lim π) h, enough-zeroed 64 s p h, e)
       (refl, (refl, cleared scratchSize s l ys (omega (arith, h .numbers, u .same)) (u .later) z))
 
   -- ---- the chosen word
@@ -103,5 +99,5 @@ module _ (π : Prices) (n : ℕ) (lim : Limits) {s p : List ℕ} (h : Enough 64 
         → Served π (bestOutcome n lim π) s p r p′ s′
     unfolding placedOf chosenOf placesLeft filled
     word-served e f g =
-        rw (lent-all s p (bestOutcome n lim π) h, best, scratch-zeroed s p h)
+        rw (lent-all s p (bestOutcome n lim π) h, best, enough-zeroed 64 s p h)
         (e ∙ rw (w .number, w .told), (f, g ∙ rw (u .later)))

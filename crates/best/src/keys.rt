@@ -63,7 +63,7 @@ fn fill_none(part: &mut [u64], from: usize, end: usize)
 //
 // Bit a of `ones` is 1 where the remainder by three of column a's rest is 1, bit a of `zeros` where it is 0 (grid, Masks). At 1
 // both readers let b rise, by the letter 3; at 0 the first reader alone, by the letter 2; at 2 none. Where nothing is left above,
-// the remainder is 2: what stands there is free, so a sum with it may wrap, and is not chosen. What a rise of b gives is cut at
+// the remainder is 2: such a cell is unspecified, so a sum with it may wrap, and is not chosen. What a rise of b gives is cut at
 // `NONE`, so both numbers are, and no column waits for a cut of the one right of it. The costs are read once, before the loop: they
 // stay in registers, and each choice is compiled to a conditional move.
 fn fill_below(

@@ -33,9 +33,9 @@ pub enum Chosen {
 // The best chain of n within the limits and by the prices: its position in the whole list of n, its number of parts and its price;
 // the part numbers in the places. The number 0 has the empty chain, within any limits.
 //
-// Lent a scratch of at least 5,248 numbers and 64 places or more, with any contents. Refuses with 1 where less is lent, and nothing
-// is touched; with 5 where no chain is within the limits, and the places are as they were. Else the places behind the part numbers
-// are zero up to 64, and the first 5,248 numbers of the scratch are zero on every way out but 1.
+// Lent a scratch of at least `lent::SCRATCH` numbers and 64 places or more, with any contents. Refuses with 1 where less is lent,
+// and nothing is touched; with 5 where no chain is within the limits, and the places are as they were. Otherwise the places behind
+// the part numbers are zero up to 64. With every answer but 1 the first `lent::SCRATCH` numbers of the scratch are zero.
 pub fn best_chain(
     n: u64,
     limits: Limits,

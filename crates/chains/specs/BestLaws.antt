@@ -309,7 +309,7 @@ module _ (n : ℕ) (lim : Limits) (π : Prices) where
       go none h f = refl
       go (some c) h f = absurd (f c (h .chain) (h .within))
 
--- The number 0 has the empty chain, whatever the limits and the prices.
+-- The best chain of 0 is the empty one, for all limits and prices.
 pub best-of-zero : (lim : Limits) (π : Prices) → bestChain 0 lim π ≡ some []
 unfolding bestChain bestAmong sooner isWithin listOf wordsAt wordsIn atRest chainOf chainFrom
 best-of-zero lim π = refl

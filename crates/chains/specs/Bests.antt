@@ -2,7 +2,7 @@
 --
 -- In this order: the choice of two words; the least of the words of a list that pass a test (`least-found`, with `FirstLeast` for
 -- what it tells); the words of a rest, and the grid; the two branches at a point, by a rise of a and by a rise of b; the best word
--- at a rest of 2 or more (`best-step`), of 0 and of 1, and outside the grid. Last the same for the least key, a number as a table
+-- at a rest of 2 or more (`best-step`) and of 1, and outside the grid. Last the same for the least key, a number as a table
 -- holds it (`least-step`), and the two choices of a walk along such a table (`take-a`, `take-b`).
 --
 -- That the best word is the word of the best chain, for document 01's prices, is in BestOfAll.
@@ -304,11 +304,6 @@ module _ (κ : Costs) (A B : ℕ) where
         next-right (m % 2) p (omega arith),
         next-up (2 + m % 3) p (omega arith),
       )
-
-  pub best-zero : (f : Bool) (p : Part) → bestAt κ A B f p 0 ≡ cond f (some []) none
-  unfolding bestAt wordsAt wordsIn atRest keep inGrid least earlier
-  best-zero true p = refl
-  best-zero false p = refl
 
   pub best-one : (f : Bool) (p : Part) → bestAt κ A B f p 1 ≡ cond (inside A B p) (some (3 ∷ [])) none
   unfolding bestAt wordsAt wordsIn atRest byThird keep inGrid lastPoint least earlier

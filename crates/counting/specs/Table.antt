@@ -1,6 +1,6 @@
 -- The table of counts. A cell holds how many words its reader can go on with at its rest.
--- Definitions only: the meaning of a cell, what filling the table leaves in the scratch, and what the live columns of a row ask. The
--- laws are in CellLaws.
+-- Definitions only: the meaning of a cell, what filling the table leaves in the scratch, and what the live columns of a row ask.
+-- The laws are in CellLaws.
 use mathlib.Core.Path.{_≡_}
 use mathlib.Core.List.{List}
 use Prim.Native.Nat.{ℕ, _/_, _^_, _<_}

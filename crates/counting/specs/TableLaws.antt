@@ -1,9 +1,8 @@
 -- The table count, case by case; the definitions are in TableCount.
 --
--- In this order: the two cases of an answer; what a caller of `fill_counts` has from its answer; the table in the scratch, from the rows
--- that were filled and back; that the table count and the plain count agree where both serve.
+-- In this order: the two cases of an answer; what a caller of `fill_counts` has from its answer; the table in the scratch, from the
+-- rows that were filled and back; that the table count and the plain count agree where both serve.
 use mathlib.Core.Path.{_≡_, refl, sym, ap, ap₂, _∙_}
-use mathlib.Core.Bool.{cond}
 use mathlib.Core.List.{List, [], _∷_, _++_}
 use Prim.Native.Nat.{ℕ, zero, suc, _+_, _-_, _*_, _^_, _/_, _%_, _≤_, _<_}
 use native.Mathlib.Decide.{decLe}

@@ -3,20 +3,18 @@
 -- In this order: a reply with zeros after it; the items of a line in an array; enough is lent to a service; a chain that a
 -- service gives.
 use mathlib.Core.Path.{_≡_, refl, sym, _∙_}
-use mathlib.Core.Bool.{false}
 use mathlib.Core.List.{List, [], map, _++_}
-use Prim.Native.Nat.{ℕ, _+_, _-_, _*_, _≤_}
+use Prim.Native.Nat.{ℕ, _+_, _-_, _≤_}
 use native.Mathlib.Nat.{sub-zero}
 use native.Mathlib.Omega.{arith}
-use borrow.Author.Tests.{le-ltb}
 use lib.ListN.{length, take, drop, length-append, length-drop, length-map}
 use lib.Seq.{take-append-seam}
 use Rattle.chains.specs.Chains.{Part}
 use Rattle.lent.specs.Lent.{zeros, filled, scratchSize, scratchLeft, tooLittle, Enough}
-use Rattle.lent.specs.LentLaws.{enough}
+use Rattle.lent.specs.LentLaws.{enough-zeroed}
 use Rattle.parts.specs.Parts.{partNumber}
 use Rattle.ranking.specs.Services.{Outcome, refused, gives, answerOf, placesLeft, lent}
-use Rattle.ranking.specs.RoundTrips.{numbers-left}
+use Rattle.ranking.specs.RoundTrips.{numbers-left, lent-all}
 use Rattle.ranking.specs.declared.Found.{Found}
 use Rattle.ranking.specs.declared.Found.the-variants as found
 use Rattle.digits.specs.Digits.{digitsOf}
@@ -84,17 +82,15 @@ module _ (k : Kind) (line : List ℕ) (places n : ℕ) (fits : Fit line k)
 -- ---- enough is lent to a service
 
 module _ (s p : List ℕ) (numbers : scratchSize ≤ length s) (room : length p ≡ 64) where
-  all-lent : tooLittle 64 s p ≡ false
-  all-lent = enough 64 s p (record { numbers = numbers; room = omega arith })
+  all-lent : Enough 64 s p
+  all-lent = record { numbers = numbers; room = omega arith }
 
   -- Its outcome is its own, and it zeroes the scratch.
   pub own-outcome : (o : Outcome) → lent s p o ≡ o
-  unfolding lent
-  own-outcome o = rw all-lent
+  own-outcome o = lent-all s p o all-lent
 
   pub scratch-zeroed : (s′ : List ℕ) → s′ ≡ scratchLeft (tooLittle 64 s p) s → s′ ≡ filled scratchSize [] s
-  unfolding scratchLeft
-  scratch-zeroed s′ e = rw all-lent at e
+  scratch-zeroed s′ e = e ∙ enough-zeroed 64 s p all-lent
 
 -- ---- a chain that a service gives
 

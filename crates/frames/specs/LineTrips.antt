@@ -25,7 +25,7 @@ use Rattle.ranking.specs.Services.{Outcome, refused, gives, atPosition, ofWord,
 use Rattle.ranking.specs.Outcomes.{at-past, at-chain, of-chain, next-below, next-last, record-chain}
 use Rattle.digits.specs.Digits.{isDigit, every, allDigits, digitsOf}
 use Rattle.digits.specs.DigitLaws.{every-append, length-digits, allDigits-digits}
-use Rattle.lines.specs.Kinds.{Kind, count-line, best-line, at-line, record-line, word-line, next-line, rowOf, kindOf}
+use Rattle.lines.specs.Kinds.{Kind, at-line, record-line, word-line, next-line, rowOf, kindOf}
 use Rattle.lines.specs.Lines.{field, fields, countIn, bytesIn, itemsIn, Fit}
 use Rattle.lines.specs.LineLaws.{line-fit, kind-byte, row-small}
 use Rattle.frames.specs.ReplyDigits.{valuesDigits, headBytes, chainDigits}
@@ -220,7 +220,7 @@ chain-leads n c h f =
     let r : ChainRead n (position n c) (map partNumber c) ds = rw append-nil at (reply-read n c [] h f) in
     let l = chain-lines n c h f in
     record {
-      placed = rw (r .number, r .place) (l .placed);
+      placed = rw (r .number, r .position-read) (l .placed);
       burned = rw (r .parts, r .each) (l .burned);
     }
 

@@ -70,7 +70,7 @@ count-read count h = (
 pub record ChainRead (n position : ℕ) (numbers ds : List ℕ) : Type 0 where
   pub zero-first : field ds 0 1 ≡ 0
   pub number : field ds 1 8 ≡ n
-  pub place : field ds 9 8 ≡ position
+  pub position-read : field ds 9 8 ≡ position
   pub parts : field ds 17 1 ≡ length numbers
   pub each : fields ds headBytes 2 (length numbers) ≡ numbers
 
@@ -102,7 +102,7 @@ module _ (n position : ℕ) (numbers rest : List ℕ) (f : n < 2 ^ 64) (g : posi
       record {
         zero-first = rw whole (field-first 1 0 (b ++ (c ++ (d ++ more))) (omega arith));
         number = after-a 0 8 ∙ field-first 8 n (c ++ (d ++ more)) (omega arith);
-        place = after-b 0 8 ∙ field-first 8 position (d ++ more) (omega arith);
+        position-read = after-b 0 8 ∙ field-first 8 position (d ++ more) (omega arith);
         parts = after-b 8 1 ∙ field-after 8 0 1 c (d ++ more) (length-digits 16 position)
             ∙ field-first 1 (length numbers) more (omega arith);
         each = numbers-read;

@@ -8,7 +8,7 @@ use mathlib.Core.Path.{_≡_, refl}
 use mathlib.Core.Bool.{Bool, true, false}
 use mathlib.Core.List.{List, _++_, map}
 use mathlib.Core.Option.{Option, none, some}
-use Prim.Native.Nat.{ℕ, zero, suc, _+_, _*_, _%_, _^_, _≤_, _<_}
+use Prim.Native.Nat.{ℕ, _+_, _*_, _%_, _^_, _≤_, _<_}
 use native.Mathlib.Omega.{arith}
 use lib.Dec.{T}
 use lib.ListN.{length, take, length-map}
@@ -76,8 +76,8 @@ pub record Sound (o : Outcome) : Type 0 where
 pub at-sound : (n i : ℕ) → n < 2 ^ 64 → Sound (atPosition n i)
 at-sound n i f =
     record {
-      chain = λ m c e. let (same, chain, place) = at-gives n i m c e in rw same chain;
-      fits = λ m c e. let (same, chain, place) = at-gives n i m c e in omega arith;
+      chain = λ m c e. let (same, chain, there) = at-gives n i m c e in rw same chain;
+      fits = λ m c e. let (same, chain, there) = at-gives n i m c e in omega arith;
     }
 
 pub word-sound : (w : List ℕ) → Sound (ofWord w)

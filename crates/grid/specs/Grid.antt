@@ -4,7 +4,7 @@
 --
 -- What a cell means is a function of its point, its reader and its rest.
 -- Definitions only: rows and tables that are right, then what the calls that fill them ask and leave. The laws by which a row and a
--- table are filled and read are in Fill, those of rests in Rests, those of their remainders by three in Masks.
+-- table are filled and read are in Fill and Kept, those of rests in Rests, those of their remainders by three in MaskLaws.
 use mathlib.Core.Path.{_≡_}
 use mathlib.Core.Bool.{Bool, true, false}
 use mathlib.Core.List.{List}
@@ -21,7 +21,7 @@ abbrev pub Meaning : Type 0
 Meaning = ℕ → ℕ → Bool → ℕ → ℕ
 
 -- The columns from j on of row b, at the start of l, are right wherever something is left, where m is the rest of the row's first
--- column. What stands where nothing is left is free: no walk comes there, and where filling reads it, above a rest of 2, no number
+-- column. Cells whose rest is 0 are unspecified: no walk comes there, and where filling reads one, above a rest of 2, no number
 -- depends on it.
 pub record RowFrom (G : Meaning) (b m j : ℕ) (l : List ℕ) : Type 0 where
   pub free : (i : ℕ) → j ≤ i → i < 64 → 1 ≤ m / 2 ^ i → getD l (2 * i) 0 ≡ G i b true (m / 2 ^ i)

@@ -1,7 +1,7 @@
 -- Where nothing is left, filling a table leaves what stood there.
 --
--- In this order: a row in which nothing was stored; the two stores of a column in which something is left; one step after another; the
--- rows, where none is filled and where one more is.
+-- In this order: a row in which nothing was stored; the two stores of a column in which something is left; one step after another;
+-- the rows, where none is filled and where one more is.
 use mathlib.Core.Path.{_≡_, refl, sym, _∙_}
 use mathlib.Core.Logic.{_≢_}
 use mathlib.Core.List.{List}

@@ -3,31 +3,14 @@
 --
 -- In this order: the half and the third of a rest, which stand in the next column and in the row above; the columns whose rest is
 -- 0, and the last one whose rest is not; the bound on the rest of a row; the rest at a point, and the points where something is
--- left. The remainders by three are in Masks.
+-- left. The remainders by three are in Masks and MaskLaws.
 use mathlib.Core.Path.{_≡_, sym, _∙_}
 use Prim.Native.Nat.{ℕ, suc, _+_, _*_, _^_, _/_, _≤_, _<_}
-use native.Mathlib.Nat.{
-  div-div-eq-div-mul,
-  div-eq-of-lt,
-  div-eq-of-lt-le,
-  le-div-iff-mul-le,
-  le-mul-of-pos-right,
-  le-trans,
-  lt-of-lt-of-le,
-  lt-of-not-le,
-  mul-comm,
-  mul-le-mul,
-  mul-le-mul-left,
-  one-le-pow,
-  pow-le-pow-left,
-  pow-le-pow-right,
-  pow-suc,
-  pow-succ',
-}
+use native.Mathlib.Nat.{div-div-eq-div-mul, div-eq-of-lt, div-eq-of-lt-le, le-div-iff-mul-le, lt-of-lt-of-le, lt-of-not-le, mul-comm, mul-le-mul, one-le-pow, pow-le-pow-right, pow-suc, pow-succ'}
 use native.Mathlib.Omega.{arith}
 use native.Mathlib.Numerals.{add-one}
 use lib.Pow.{shr-shr, pow-mono, pow-pos}
-use Rattle.chains.specs.Chains.{Part, value}
+use Rattle.chains.specs.Chains.{value}
 use Rattle.grid.specs.Grid.{restAt}
 use Rattle.chains.specs.Bounds.{part-bounds}
 

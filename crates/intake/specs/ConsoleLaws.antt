@@ -2,7 +2,7 @@
 --
 -- In this order: what is kept before the first call; what one call keeps; what two calls keep together; a call to which enough is
 -- lent is not refused; the first n bytes of `out` are replies.
-use mathlib.Core.Path.{_≡_, refl, sym, ap, _∙_}
+use mathlib.Core.Path.{_≡_, sym, ap, _∙_}
 use mathlib.Core.Bool.{Bool, true, false, true≢false}
 use mathlib.Core.List.{List, [], _++_, append-assoc, append-nil}
 use Prim.Native.Nat.{ℕ, _+_, _-_, _≤_}
@@ -11,7 +11,7 @@ use native.Mathlib.Omega.{arith}
 use lib.ListN.{length, take, drop, replicate, length-replicate, drop-of-length-le, length-take, length-drop, length-append}
 use lib.Seq.{take-all, take-add, drop-at, length-take-le}
 use Rattle.lent.specs.Lent.{zeros, filled}
-use Rattle.lent.specs.LentLaws.{length-zeros, filled-first}
+use Rattle.lent.specs.LentLaws.{length-zeros}
 use Rattle.lines.specs.Stream.{finished, unfinished, lastLine, repliesTo}
 use Rattle.lines.specs.StreamLaws.{unfinished-append, kept-unfinished}
 use Rattle.frames.specs.Replies.{replyOf}

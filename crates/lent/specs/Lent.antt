@@ -1,5 +1,5 @@
--- What a service asks to be lent and what it leaves there: document 01, 'Services and memory'. The scratch, the places and the reply
--- follow one rule: what the service gives, then zeros up to the size that it asks for, and everything later as it was.
+-- What a service asks to be lent and what it leaves there: document 01, 'Services and memory'. The scratch, the places and the
+-- reply follow one rule: what the service gives, then zeros up to the size that it asks for, and everything later as it was.
 --
 -- In this order: the rule; the size of the scratch; whether too little is lent; the scratch at exit.
 -- Definitions only. The laws are in LentLaws.

@@ -2,7 +2,7 @@
 --
 -- In this order: the length is kept; a part of that size that was zeroed; what is given, put over the zeros; whether too little is
 -- lent, and the scratch at exit, in each case.
-use mathlib.Core.Path.{_≡_, refl, ap}
+use mathlib.Core.Path.{_≡_, ap}
 use mathlib.Core.Bool.{Bool, true, false, or-true}
 use mathlib.Core.List.{List, [], _++_, append-assoc}
 use Prim.Native.Nat.{ℕ, _+_, _-_, _≤_, _<_}
@@ -81,6 +81,9 @@ left-untouched b s e = rw e
 pub left-zeroed : (b : Bool) (s : List ℕ) → b ≡ false → scratchLeft b s ≡ filled scratchSize [] s
 unfolding scratchLeft
 left-zeroed b s e = rw e
+
+pub enough-zeroed : (size : ℕ) (s p : List ℕ) → Enough size s p → scratchLeft (tooLittle size s p) s ≡ filled scratchSize [] s
+enough-zeroed size s p h = left-zeroed (tooLittle size s p) s (enough size s p h)
 
 -- The same of a service that is lent no places.
 pub served-zeroed : (s : List ℕ) → scratchSize ≤ length s → scratchLeft (littleScratch s) s ≡ filled scratchSize [] s

@@ -8,7 +8,7 @@ use native.Mathlib.Omega.{arith}
 use lib.ListN.{length, drop}
 use Rattle.lines.specs.Kinds.{Kind, kindOf, rowOf}
 use Rattle.lines.specs.Lines.{field, fields, bytesIn, countIn, itemsIn, readItems, itemsCode, itemsLeft}
-use Rattle.lines.specs.LineLaws.{length-fields, Small, row-small}
+use Rattle.lines.specs.LineLaws.{length-fields, row-small}
 use Rattle.lines.specs.Calls.{rowFor, spanItems, InLine}
 use Rattle.lines.specs.declared.Row.{Row}
 use Rattle.lines.specs.declared.Span.{Span}

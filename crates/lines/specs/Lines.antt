@@ -2,11 +2,11 @@
 -- gives. Document 01, 'Frames' and 'What a refused line or call gets'. A line is a list of characters, without its byte 10.
 -- Definitions only.
 use mathlib.Core.Path.{_≡_}
-use mathlib.Core.Bool.{Bool, true, false, cond, _||_}
+use mathlib.Core.Bool.{Bool, true, cond, _||_}
 use mathlib.Core.List.{List, [], _∷_, _++_}
 use mathlib.Core.Option.{Option, none, some}
 use Prim.Native.Nat.{ℕ, zero, suc, _+_, _*_, _%_, _≤_, _<_}
-use lib.Dec.{eqb, ltb, leb}
+use lib.Dec.{eqb, ltb}
 use lib.ListN.{length, take, drop}
 use Rattle.digits.specs.Digits.{allDigits, numberOf}
 use Rattle.lines.specs.Kinds.{Kind, rowOf, kindOf}

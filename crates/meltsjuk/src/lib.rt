@@ -7,7 +7,6 @@ use best::Prices;
 use counting::Counted;
 use frames::Replied;
 ghost use mathlib.Core.Path.{_≡_};
-ghost use lib.ListN.{length};
 ghost use Rattle.lent.specs.Lent.{tooLittle, scratchLeft, littleScratch};
 ghost use Rattle.ranking.specs.Services.{placesLeft};
 ghost use Rattle.counting.specs.TableCount.{countedOf};

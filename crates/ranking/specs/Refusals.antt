@@ -178,7 +178,7 @@ record-given l n = Iff·trans (as-judged (judgedOf l)) (judged-sum l n)
 
 -- ---- too little is lent
 
--- The scratch is under 5,248 numbers, or the places are under 64.
+-- The scratch has fewer numbers than it must have, or there are fewer than 64 places.
 abbrev Little : List ℕ → List ℕ → Type 0
 Little s p = (length s < scratchSize) ⊎ (length p < 64)
 

@@ -14,7 +14,7 @@ ghost use Rattle.lent.specs.Lent.{filled, scratchSize};
 ghost use Rattle.ranking.specs.Services.{refused, placedOf, answerOf, placesLeft, ofWord, standing};
 ghost use Rattle.ranking.specs.Walks.{Listed, Readable, Giving};
 
-// Zeroes the first 5,248 numbers of the scratch.
+// Zeroes the first `lent::SCRATCH` numbers of the scratch.
 pub fn clear(scratch: &mut [u64])
     requires { ⌜ scratchSize ≤ length (now scratch) ⌝ }
     ensures { λ _. ⌜ now (scratch .exit) ≡ filled scratchSize [] (now (scratch .entry)) ⌝ }

@@ -12,7 +12,7 @@ use native.Mathlib.Omega.{arith}
 use borrow.Rule.Slice.PartMut.{midOf, putMid, take-put}
 use lib.ListN.{length, take, drop, set, length-append, length-drop, length-set, take-append-drop}
 use lib.Seq.{length-take-le, set-split}
-use Rattle.lent.specs.LentLaws.{length-filled, filled-first, enough}
+use Rattle.lent.specs.LentLaws.{length-filled, filled-first, enough, enough-zeroed}
 use Rattle.lent.specs.Lent.{filled, tooLittle, scratchLeft, scratchSize, Enough}
 use Rattle.lent.specs.Parts.{part-lent, part-back}
 use Rattle.digits.specs.DigitLaws.{length-digits}
@@ -29,8 +29,11 @@ told-length (refusedAs r) = sym (length-digits 2 r)
 told-length (servedWith ds) = refl
 
 module _ (line scratch part : List ℕ) (h : scratchSize ≤ length scratch) (k : 514 ≤ length part) where
+  all-lent : Enough 514 scratch part
+  all-lent = record { numbers = h; room = k }
+
   enough-lent : tooLittle 514 scratch part ≡ false
-  enough-lent = enough 514 scratch part (record { numbers = h; room = k })
+  enough-lent = enough 514 scratch part all-lent
 
   pub reply-told : digitsTold (answerTo (tooLittle 514 scratch part) line) ≡ length (replyOf line)
   unfolding answerTo replyOf
@@ -41,8 +44,7 @@ module _ (line scratch part : List ℕ) (h : scratchSize ≤ length scratch) (k 
   reply-out = rw enough-lent
 
   pub reply-scratch : scratchLeft (tooLittle 514 scratch part) scratch ≡ filled scratchSize [] scratch
-  unfolding scratchLeft
-  reply-scratch = rw enough-lent
+  reply-scratch = enough-zeroed 514 scratch part all-lent
 
 -- ---- the part back in its place
 

@@ -1,6 +1,6 @@
 // Answering a file of lines block by block: document 01, 'Frames'. A line ends at byte 10; each reply is followed by a byte 10. Of
-// a line that a block does not end, the first 515 characters are kept for the next block: a line that long is refused whatever
-// follows. Every public function here takes any input.
+// a line that a block does not end, the first 515 characters are kept for the next block: a line that long is refused in any
+// case. Every public function here takes any input.
 use frames::Replied;
 ghost use mathlib.Core.Path.{_≡_};
 ghost use mathlib.Core.Bool.{false};

@@ -1,6 +1,6 @@
--- `fill_counts` meets its contract: a scratch of the size asked for has room for the rows from 0 on, and the first cell of the table has
--- the count, but for the number 0.
-use mathlib.Core.Path.{_≡_, refl, sym, ap, _∙_}
+-- `fill_counts` meets its contract: a scratch of the size asked for has room for the rows from 0 on, and the first cell of the
+-- table has the count, but for the number 0.
+use mathlib.Core.Path.{_≡_, sym, ap, _∙_}
 use mathlib.Core.List.{List}
 use Prim.Native.Nat.{ℕ, _≤_}
 use native.Mathlib.Omega.{arith}

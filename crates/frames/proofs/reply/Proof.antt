@@ -1,11 +1,9 @@
 -- `reply` refuses with 1 where too little is lent. Else it replies by the line's shape.
 use mathlib.Core.Path.{_≡_, refl, sym, _∙_}
-use mathlib.Core.Bool.{true, false, or-true}
+use mathlib.Core.Bool.{true}
 use mathlib.Core.List.{List}
-use Prim.Native.Nat.{ℕ, _<_}
+use Prim.Native.Nat.{ℕ}
 use borrow.Author.Needs.{needs}
-use borrow.Author.Tests.{lt-ltb, le-ltb}
-use lib.ListN.{length}
 use Rattle.lent.specs.Lent.{scratchLeft, tooLittle, Enough}
 use Rattle.lent.specs.LentLaws.{little-scratch, little-places, enough}
 use Rattle.lines.specs.Lines.{shapeOf, shapeCode}

@@ -1,14 +1,14 @@
 -- `span_of` tells where the items stand: each test is that of `readItems`, in its order.
-use mathlib.Core.Path.{_≡_, refl, sym, ap, _∙_}
+use mathlib.Core.Path.{_≡_, sym, ap, _∙_}
 use mathlib.Core.List.{List}
-use mathlib.Core.Option.{Option, some}
+use mathlib.Core.Option.{some}
 use Prim.Native.Nat.{ℕ, _+_, _*_, _/_, _≤_, _<_}
 use native.Mathlib.Omega.{arith}
 use borrow.Author.Needs.{needs}
 use lib.ListN.{length}
 use Rattle.lines.specs.Kinds.{Kind, rowOf, kindOf}
 use Rattle.lines.specs.Lines.{field, fields, bytesIn, itemsIn, unread, read, itemsOfKind, readItems}
-use Rattle.lines.specs.LineLaws.{row-small, items-little, items-kind, items-none, items-other, items-short, items-there}
+use Rattle.lines.specs.LineLaws.{items-little, items-kind, items-none, items-other, items-short, items-there}
 use Rattle.lines.specs.Calls.{rowFor, spanItems, InLine}
 use Rattle.lines.specs.declared.Row.{Row}
 use Rattle.lines.proofs.CallLaws.{Known, no-kind, of-kind, known, row-low, row-bytes, row-items}

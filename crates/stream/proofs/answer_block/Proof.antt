@@ -10,7 +10,7 @@ use lib.ListN.{length, take}
 use Rattle.lent.specs.LentLaws.{cleared}
 use Rattle.lent.specs.Lent.{zeros, filled, scratchSize, scratchLeft}
 use Rattle.lines.specs.Stream.{finished, unfinished}
-use Rattle.stream.specs.Answers.{little, Goes, usedOf, fedOf, keptLeft, repliesLeft}
+use Rattle.stream.specs.Answers.{Goes, usedOf, fedOf, keptLeft, repliesLeft}
 use Rattle.stream.specs.AnswerLaws.{lent-enough}
 use Rattle.stream.specs.Pieces.{Later, Keeps, Wrote}
 use Rattle.stream.specs.declared.Fed.{Fed}

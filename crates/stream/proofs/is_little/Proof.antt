@@ -1,7 +1,6 @@
 -- `is_little` makes one test for each of the four.
-use mathlib.Core.Path.{_≡_, sym}
+use mathlib.Core.Path.{sym}
 use native.Mathlib.Omega.{arith}
-use borrow.Author.Needs.{needs}
 use Rattle.lent.specs.LentLaws.{little-scratch, little-places}
 use Rattle.stream.specs.AnswerLaws.{little-memory, few-kept, by-k}
 use Rattle.stream.proofs.is_little.Statement.{statement}

@@ -1,5 +1,5 @@
--- `rows::fill_rows` meets its contract: it fills the rows from the last one down to row b. Each step is lent its part of the scratch,
--- and one step serves every row.
+-- `rows::fill_rows` meets its contract: it fills the rows from the last one down to row b. Each step is lent its part of the
+-- scratch, and one step serves every row.
 use Prim.Native.Nat.{_-_}
 use native.Mathlib.Omega.{arith}
 use borrow.Author.Needs.{needs}

@@ -1,5 +1,5 @@
 -- `put_chain` leaves the numbers right after the head.
-use mathlib.Core.Path.{refl, sym}
+use mathlib.Core.Path.{sym}
 use native.Mathlib.Omega.{arith}
 use borrow.Author.Needs.{needs}
 use Rattle.frames.specs.PutLaws.{at-start, one-more, from-start}

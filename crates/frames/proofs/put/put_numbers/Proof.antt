@@ -1,6 +1,6 @@
 -- `put_numbers` leaves the digits of the numbers one after the other: after i turns those of the first i stand. The measure is the
 -- number that is left.
-use mathlib.Core.Path.{_≡_, refl, _∙_}
+use mathlib.Core.Path.{_≡_, refl}
 use mathlib.Core.List.{List}
 use Prim.Native.Nat.{ℕ, _+_, _-_, _*_, _≤_, _<_}
 use native.Mathlib.Omega.{arith}

@@ -5,8 +5,6 @@ use mathlib.Core.List.{List}
 use Prim.Native.Nat.{ℕ, _≤_}
 use native.Mathlib.Omega.{arith}
 use borrow.Author.Needs.{needs}
-use borrow.Author.Tests.{le-ltb}
-use lib.Dec.{ltb}
 use lib.ListN.{length, length-map}
 use Rattle.lent.specs.LentLaws.{scratch-enough}
 use Rattle.lent.specs.Lent.{scratchSize, littleScratch, scratchLeft}
