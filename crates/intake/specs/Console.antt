@@ -8,7 +8,7 @@ use lib.ListN.{length, take}
 use Rattle.lent.specs.Lent.{filled}
 use Rattle.lines.specs.Stream.{unfinished, repliesTo}
 use Rattle.frames.specs.Replies.{replyOf}
-use Rattle.stream.specs.Answers.{Enough}
+use Rattle.stream.specs.Answers.{Lending}
 
 -- The first k places of `kept` are all that it holds: behind them are zeros up to 515.
 abbrev pub Alone : List ℕ → ℕ → Type 0
@@ -16,7 +16,7 @@ Alone kept k = kept ≡ filled 515 (take k kept) kept
 
 -- What each step asks for: enough is lent, and all that is kept is told, so that a caller who forgets some of it is refused.
 pub record Ready (kept : List ℕ) (k : ℕ) (scratch out : List ℕ) : Type 0 where
-  pub enough : Enough (length kept) k (length scratch) (length out)
+  pub enough : Lending kept k scratch out
   pub alone : Alone kept k
 
 -- `kept` holds the first 515 characters of a line, and k tells how many these are.

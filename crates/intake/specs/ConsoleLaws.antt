@@ -16,7 +16,7 @@ use Rattle.lines.specs.Stream.{finished, unfinished, lastLine, repliesTo}
 use Rattle.lines.specs.StreamLaws.{unfinished-append, kept-unfinished}
 use Rattle.frames.specs.Replies.{replyOf}
 use Rattle.frames.specs.ReplyLaws.{first-515}
-use Rattle.stream.specs.Answers.{little, Enough, Goes, usedOf, fedOf, keptLeft, repliesLeft, Moves, endedOf}
+use Rattle.stream.specs.Answers.{little, Lending, Goes, usedOf, fedOf, keptLeft, repliesLeft, Moves, endedOf}
 use Rattle.stream.specs.AnswerLaws.{enough-lent, Served, served, what-kept, what-wrote, wrote-fits, end-served, moves-on}
 use Rattle.stream.specs.declared.Fed.{Fed}
 use Rattle.stream.specs.declared.Fed.the-variants as fed
@@ -108,7 +108,7 @@ end-refused false line q n e =
     let z : _≡_ {A = ℕ} 0 1 = cc in
     omega arith
 
-module _ (kept : List ℕ) (k : ℕ) (scratch out : List ℕ) (lent : Enough (length kept) k (length scratch) (length out)) where
+module _ (kept : List ℕ) (k : ℕ) (scratch out : List ℕ) (lent : Lending kept k scratch out) where
   abbrev b : Bool
   b = little kept k scratch out
 
@@ -131,7 +131,7 @@ module _ (kept : List ℕ) (k : ℕ) (scratch out : List ℕ) (lent : Enough (le
         let u : usedOf r ≡ used = ap usedOf e in
         let s = served b line block kept keptExit out outExit used left n (rw u at (sym e ∙ told)) (rw u at l) (rw u at o) in
         let g : Goes line block out used = rw u at (goes (enough-lent kept k scratch out lent)) in (
-          moves-on s g (lent .out-lent),
+          moves-on s g (lent .memory .room),
           (call-holds line block kept keptExit out outExit used left n s, what-wrote _ out outExit n (s .wrote)),
         )
 

@@ -16,7 +16,7 @@ use Rattle.lines.specs.StreamLaws.{finished-append, finished-stretch, finished-
 use Rattle.lines.specs.StreamLaws.{unfinished-append, unfinished-stretch, unfinished-line}
 use Rattle.frames.specs.Replies.{replyOf}
 use Rattle.frames.specs.ReplyLaws.{first-515}
-use Rattle.stream.specs.Answers.{Enough, behind, behindOne, Goes}
+use Rattle.stream.specs.Answers.{Lending, behind, behindOne, Goes}
 use Rattle.stream.specs.Pieces.{piece, LineEnd, Later, Keeps, Adds, Wrote}
 
 -- ---- lists
@@ -62,7 +62,7 @@ unfolding repliesTo behind
 none-written out = record { replies = refl; count = refl }
 
 pub none-answered : (block kept : List ℕ) (k : ℕ) (scratch out : List ℕ) (end : ℕ)
-    → Enough (length kept) k (length scratch) (length out) → LineEnd block 0 end
+    → Lending kept k scratch out → LineEnd block 0 end
     → Turn (take k kept) block kept scratch out kept scratch out 0 k 0 end
 unfolding finished unfinished
 none-answered block kept k scratch out end e l =

@@ -10,11 +10,11 @@ use borrow.Author.Tests.{ltb-false, lt-ltb, le-ltb}
 use lib.Dec.{ltb}
 use lib.ListN.{length, take, length-append, length-take}
 use lib.Seq.{take-at}
-use Rattle.lent.specs.Lent.{filled, scratchSize, littleScratch, tooLittle}
+use Rattle.lent.specs.Lent.{filled, scratchSize, littleScratch, tooLittle, Enough}
 use Rattle.lent.specs.LentLaws.{filled-first, enough}
 use Rattle.lines.specs.Stream.{finished, unfinished, lastLine, repliesTo}
 use Rattle.frames.specs.Replies.{replyOf}
-use Rattle.stream.specs.Answers.{little, Enough, behind, repliesLeft, Goes, fedOf, keptLeft, Moves, endedOf}
+use Rattle.stream.specs.Answers.{little, Lending, behind, repliesLeft, Goes, fedOf, keptLeft, Moves, endedOf}
 use Rattle.stream.specs.Pieces.{Wrote}
 use Rattle.stream.specs.declared.Fed.the-variants as fed
 use Rattle.stream.specs.declared.Ended.the-variants as ended
@@ -39,10 +39,10 @@ module _ (kept : List ℕ) (k : ℕ) (scratch out : List ℕ) where
   unfolding little
   by-k s o h = rw (enough 515 scratch out (record { numbers = s; room = o }), le-ltb (length kept) 515 h)
 
-  pub enough-lent : Enough (length kept) k (length scratch) (length out) → little kept k scratch out ≡ false
-  enough-lent e = by-k (e .scratch-lent) (e .out-lent) (e .kept-lent) ∙ le-ltb 515 k (e .line-kept)
+  pub enough-lent : Lending kept k scratch out → little kept k scratch out ≡ false
+  enough-lent e = by-k (e .memory .numbers) (e .memory .room) (e .kept-lent) ∙ le-ltb 515 k (e .line-kept)
 
-  pub lent-enough : little kept k scratch out ≡ false → Enough (length kept) k (length scratch) (length out)
+  pub lent-enough : little kept k scratch out ≡ false → Lending kept k scratch out
   unfolding little tooLittle littleScratch
   lent-enough e =
       let a = both-false (tooLittle 515 scratch out) (ltb (length kept) 515 || ltb 515 k) e in
@@ -51,8 +51,7 @@ module _ (kept : List ℕ) (k : ℕ) (scratch out : List ℕ) where
       record {
         kept-lent = ltb-false (length kept) 515 (l .0);
         line-kept = ltb-false 515 k (l .1);
-        scratch-lent = ltb-false (length scratch) scratchSize (m .0);
-        out-lent = ltb-false (length out) 515 (m .1);
+        memory = record { numbers = ltb-false (length scratch) scratchSize (m .0); room = ltb-false (length out) 515 (m .1) };
       }
 
 -- ---- what is written

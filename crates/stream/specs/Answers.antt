@@ -8,7 +8,7 @@ use mathlib.Core.List.{List, [], _∷_, _++_}
 use Prim.Native.Nat.{ℕ, _+_, _≤_, _<_}
 use lib.Dec.{ltb}
 use lib.ListN.{length, take, drop}
-use Rattle.lent.specs.Lent.{filled, scratchSize, tooLittle}
+use Rattle.lent.specs.Lent.{filled, tooLittle, Enough}
 use Rattle.lines.specs.Stream.{finished, unfinished, lastLine, repliesTo}
 use Rattle.frames.specs.Replies.{replyOf}
 use Rattle.stream.specs.declared.Fed.{Fed}
@@ -23,12 +23,11 @@ use Rattle.stream.specs.declared.Ended.the-variants as ended
 unfoldable pub little : List ℕ → ℕ → List ℕ → List ℕ → Bool
 little kept k scratch out = tooLittle 515 scratch out || (ltb (length kept) 515 || ltb 515 k)
 
--- Enough is lent, by the numbers of places: `little` decides it.
-pub record Enough (kept k scratch out : ℕ) : Type 0 where
-  pub kept-lent : 515 ≤ kept
+-- Enough is lent to a call: `little` decides it.
+pub record Lending (kept : List ℕ) (k : ℕ) (scratch out : List ℕ) : Type 0 where
+  pub kept-lent : 515 ≤ length kept
   pub line-kept : k ≤ 515
-  pub scratch-lent : scratchSize ≤ scratch
-  pub out-lent : 515 ≤ out
+  pub memory : Enough 515 scratch out
 
 -- ---- the replies in `out`
 

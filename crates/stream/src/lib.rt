@@ -10,7 +10,7 @@ ghost use lib.ListN.{length, take};
 ghost use Rattle.lent.specs.Lent.{filled, scratchSize, scratchLeft};
 ghost use Rattle.lines.specs.Stream.{finished, unfinished, lastLine};
 ghost use Rattle.frames.specs.Replies.{replyOf};
-ghost use Rattle.stream.specs.Answers.{little, Enough, Goes, usedOf, fedOf, keptLeft, repliesLeft, endedOf};
+ghost use Rattle.stream.specs.Answers.{little, Lending, Goes, usedOf, fedOf, keptLeft, repliesLeft, endedOf};
 ghost use Rattle.stream.specs.Pieces.{LineEnd, Later, Keeps, Adds, Wrote, digitsTold};
 
 // What a block gets: how much of it was used, how many characters are kept of the line that it leaves unfinished, and how many
@@ -121,7 +121,7 @@ fn finish_line(
     out: &mut [u8],
     at: usize,
 ) -> usize
-    requires { ⌜ Enough (length (now kept)) k (length (now scratch)) (length (now out)) ⌝ }
+    requires { ⌜ Lending (now kept) k (now scratch) (now out) ⌝ }
     requires { ⌜ at + 515 ≤ length (now out) ⌝ }
     ensures { λ r. ⌜ Adds (replyOf (take k (now (kept .entry)) ++ now (part .entry))) at (now (out .entry)) (now (out .exit)) r ⌝ }
     ensures { λ _. ⌜ now (scratch .exit) ≡ filled scratchSize [] (now (scratch .entry)) ⌝ }
@@ -149,7 +149,7 @@ fn answer_lines(
     scratch: &mut [u64],
     out: &mut [u8],
 ) -> Progress
-    requires { ⌜ Enough (length (now kept)) k (length (now scratch)) (length (now out)) ⌝ }
+    requires { ⌜ Lending (now kept) k (now scratch) (now out) ⌝ }
     ensures { λ r. ⌜ Goes (take k (now (kept .entry))) (now (block .entry)) (now (out .entry)) (r .used) ⌝ }
     ensures { λ r. ⌜ Wrote (finished (take k (now (kept .entry))) (take (r .used) (now (block .entry)))) (now (out .entry))
         (now (out .exit)) (r .written) ⌝ }

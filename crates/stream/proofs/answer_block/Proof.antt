@@ -83,7 +83,7 @@ returns-2 c =
     let i = a .before .before .before .before in
     let n = sym (i .before .is-little .ensures) ∙ i .if1 .left in
     let l = a .answer-lines .ensures in
-    done _ _ _ _ _ _ _ _ _ _ _ _ _ _ n (lent-enough _ _ _ _ n .scratch-lent) (l .0) (l .1 .0) (l .1 .1 .0) (l .1 .1 .1)
+    done _ _ _ _ _ _ _ _ _ _ _ _ _ _ n (lent-enough _ _ _ _ n .memory .numbers) (l .0) (l .1 .0) (l .1 .1 .0) (l .1 .1 .1)
     (c .before .before .before .before .before .before .clear-behind .ensures)
     (c .before .before .clear-u64 .ensures)
 

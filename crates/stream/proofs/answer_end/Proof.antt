@@ -71,7 +71,7 @@ returns-2 : tie.Need-returns-2
 returns-2 c =
     let i = c .before .before .before .before in
     let n = sym (i .before .before .is-little .ensures) ∙ i .before .if1 .left in
-    no-line _ _ _ _ _ n _ (lent-enough _ _ _ _ n .scratch-lent) (i .if2 .taken) (c .before .before .clear-u64 .ensures)
+    no-line _ _ _ _ _ n _ (lent-enough _ _ _ _ n .memory .numbers) (i .if2 .taken) (c .before .before .clear-u64 .ensures)
 
 part-answer-line-end : tie.Need-part-answer-line-end
 part-answer-line-end c =

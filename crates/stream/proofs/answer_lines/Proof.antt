@@ -23,9 +23,10 @@ returns c =
 loop-again : tie.Need-loop-again Inv-loop μ-loop
 loop-again c =
     let l = c .before .before .before .before .before .before .before in
-    let t = l .before .before .before .before .before .before .before .loop .inv in
+    let i = l .before .before .before .before .before .before .before in
+    let s = i .before .before .before .before .before .before in
     let f = l .finish-line .ensures in
-    one-more t _ _ _ _ _ (omega arith) (omega arith) (f .0) (f .1 .1) (f .1 .0) (c .line-end2 .ensures)
+    one-more (i .loop .inv) _ _ _ _ _ (omega arith) (s .pre .memory .numbers) (f .0) (f .1 .1) (f .1 .0) (c .line-end2 .ensures)
 
 returns-2 : tie.Need-returns-2 Inv-loop μ-loop
 returns-2 c =
