@@ -26,9 +26,9 @@ pub fn plain_count(n: u64) -> Counted
     Counted::Count(six_lines::count_of(n))
 }
 
-// The count of any n, with a scratch of at least `lent::SCRATCH` numbers, whatever they hold; refusal 1 with a smaller one. Leaves the table
-// of the counts at the points of n in the scratch, and everything untouched where it refuses. The table says nothing where nothing
-// is left, so the number 0 is answered apart: it has one chain, the empty one.
+// The count of any n, with a scratch of at least `lent::SCRATCH` numbers, whatever they hold; refusal 1 with a smaller one. Leaves
+// the table of the counts at the points of n in the scratch, and everything untouched where it refuses. The table says nothing of a
+// point whose rest is 0, so the number 0 is answered apart: it has one chain, the empty one.
 pub fn fill_counts(n: u64, scratch: &mut [u64]) -> Counted
     ensures { λ r. ⌜ r ≡ countedOf n (now (scratch .entry)) ⌝ }
     ensures { λ _. ⌜ now (scratch .exit) ≡ tableLeft n (now (scratch .entry)) ⌝ }
