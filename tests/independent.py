@@ -33,6 +33,7 @@ import itertools
 import os
 import random
 import re
+import select
 import subprocess
 import sys
 import tempfile
@@ -40,6 +41,7 @@ import tempfile
 import grown
 
 LIMIT = 2**64
+LONGEST = 120  # seconds that the engine may take for an answer
 POINTS = [(a, b) for a in range(64) for b in range(41) if 2**a * 3**b < LIMIT]
 VALUE = {p: 2 ** p[0] * 3 ** p[1] for p in POINTS}
 TABLE = sorted(POINTS, key=lambda p: VALUE[p])
@@ -126,13 +128,13 @@ def sum_of(chain):
 
 @functools.cache
 def engine():
-    """The engine, built and started at the first question. Its file may go once it runs. It ends where its standard input does."""
+    """The engine, built and started at the first question. Its file may go once it runs. It is ended when this program ends."""
     source = os.path.join(os.path.dirname(os.path.abspath(__file__)), "independent_engine.rs")
     with tempfile.TemporaryDirectory() as folder:
         program = os.path.join(folder, "engine")
         subprocess.run(["rustc", "--edition", "2021", "-O", "-o", program, source], check=True)
         running = subprocess.Popen([program], stdin=subprocess.PIPE, stdout=subprocess.PIPE, text=True)
-    atexit.register(running.communicate)
+    atexit.register(running.kill)
     return running
 
 
@@ -141,6 +143,8 @@ def ask(*question):
     program = engine()
     program.stdin.write(" ".join(str(field) or "-" for field in question) + "\n")
     program.stdin.flush()
+    if not select.select([program.stdout], [], [], LONGEST)[0]:
+        sys.exit(f"the engine does not answer {question}")
     told = program.stdout.readline()
     if not told.endswith("\n"):
         sys.exit(f"the engine ended at {question}")

@@ -11,12 +11,12 @@
  * anything before the call, but must be initialised. The proof rests on this, which C does not check:
  *
  *   - no pointer is null, also where the length is 0, and each is aligned as its type asks;
- *   - so many numbers or bytes as the length says can be read, and written where the pointer is not to const;
+ *   - as many numbers or bytes as the length says can be read, and also written unless the pointer is to const;
  *   - no two pieces of memory that are lent to one call overlap, also not the single numbers that are written through a pointer;
  *   - nothing else reads or writes them before the call returns.
  *
  * Nothing is allocated, and nothing is kept between calls, so threads may call at the same time with memory of their own. A thread
- * whose stack is MELTSJUK_STACK bytes can make every call. Signal handlers and the caller's own functions need theirs besides.
+ * with a stack of MELTSJUK_STACK bytes can make every call. The caller's own functions and signal handlers need more on top.
  *
  * Too little lent is refused first of all, and then nothing is written. On every other return the first MELTSJUK_SCRATCH numbers of
  * the scratch are zero and those after them are as they were. More may be lent than is asked for.
@@ -27,12 +27,12 @@
 #include <stddef.h>
 #include <stdint.h>
 
-#define MELTSJUK_SCRATCH 5248 /* the least numbers of a scratch */
-#define MELTSJUK_PLACES 64    /* the least places for part numbers; a chain has at most so many parts */
-#define MELTSJUK_REPLY 514    /* the least bytes for a reply */
-#define MELTSJUK_STACK 32768  /* bytes of stack, enough for a thread that makes any of the calls */
+#define MELTSJUK_SCRATCH 5248 /* a scratch has at least so many numbers */
+#define MELTSJUK_PLACES 64    /* at least so many places are lent for part numbers; a chain has no more parts */
+#define MELTSJUK_REPLY 514    /* at least so many bytes are lent for a reply */
+#define MELTSJUK_STACK 32768  /* a thread with so many bytes of stack can make any of the calls */
 
-/* What meltsjuk_count and meltsjuk_best answer, and MELTSJUK_LITTLE_LENT of meltsjuk_reply too. */
+/* The answers of meltsjuk_count and meltsjuk_best. meltsjuk_reply answers MELTSJUK_LITTLE_LENT too, and otherwise a length. */
 #define MELTSJUK_SERVED 0      /* the answer stands where the caller asked for it */
 #define MELTSJUK_LITTLE_LENT 1 /* too little is lent, and nothing was written */
 #define MELTSJUK_NONE_FITS 5   /* no chain is within the limits */
