@@ -62,7 +62,7 @@ third-at-most false zero t = omega arith
 third-at-most f (suc zero) t = omega (arith, length-map t (λ (w : Word). 3 ∷ w))
 third-at-most f (suc (suc r)) t = omega arith
 
--- Whatever the remainder, the half counts, and no more than the half and the third.
+-- For every remainder: at least as many as at the half, and at most as many as at the half and the third together.
 between : (f : Bool) (m : ℕ) → 1 ≤ m → (ways false (m / 2) ≤ ways f m) × (ways f m ≤ ways false (m / 2) + ways true (m / 3))
 unfolding ways
 between f m h =

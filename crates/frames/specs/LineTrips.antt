@@ -28,7 +28,7 @@ use Rattle.digits.specs.DigitLaws.{every-append, length-digits, allDigits-digit
 use Rattle.lines.specs.Kinds.{Kind, at-line, record-line, word-line, next-line, rowOf, kindOf}
 use Rattle.lines.specs.Lines.{field, fields, countIn, bytesIn, itemsIn, Fit}
 use Rattle.lines.specs.LineLaws.{line-fit, kind-byte, row-small}
-use Rattle.frames.specs.ReplyDigits.{valuesDigits, headBytes, chainDigits}
+use Rattle.frames.specs.ReplyDigits.{valuesDigits, positionAt, partsAt, headBytes, chainDigits}
 use Rattle.frames.specs.ReplyDigitLaws.{length-values, every-values}
 use Rattle.frames.specs.ReadBack.{Fitting, field-after, field-first, fields-after, fields-first, ChainRead}
 use Rattle.frames.specs.Replies.{refusedAs, servedWith, chainReply, served, replyTo}
@@ -210,8 +210,8 @@ past-count n i f g l = at-reply n i f g ∙ rw (at-past n i l)
 
 -- The lines of kinds 03 and 04 made of what stands in ds, n and position or the part numbers, are served with ds.
 pub record Leads (ds : List ℕ) : Type 0 where
-  pub placed : replyTo (atLine (field ds 1 8) (field ds 9 8)) ≡ servedWith ds
-  pub burned : replyTo (recordLine (fields ds headBytes 2 (field ds 17 1))) ≡ servedWith ds
+  pub placed : replyTo (atLine (field ds 1 8) (field ds positionAt 8)) ≡ servedWith ds
+  pub burned : replyTo (recordLine (fields ds headBytes 2 (field ds partsAt 1))) ≡ servedWith ds
 
 pub chain-leads : (n : ℕ) (c : List Part) → ChainOf n c → n < 2 ^ 64 → Leads (chainDigits n (position n c) (map partNumber c))
 unfolding chainReply
@@ -245,12 +245,12 @@ reply-leads line ds k first t e =
 
 -- A burned record in particular: what its reply tells, asked for at that position, gets the same digits.
 pub record-then-at : (l ds : List ℕ) → replyTo (recordLine l) ≡ servedWith ds
-    → replyTo (atLine (field ds 1 8) (field ds 9 8)) ≡ servedWith ds
+    → replyTo (atLine (field ds 1 8) (field ds positionAt 8)) ≡ servedWith ds
 unfolding itemsLine endsWithChain
 record-then-at l ds e = reply-leads (recordLine l) ds record-line (first-byte record-line _) tt e .placed
 
 -- And back: the part numbers that stand in the reply at a position, read as a record, get the same digits.
 pub at-then-record : (n i : ℕ) (ds : List ℕ) → replyTo (atLine n i) ≡ servedWith ds
-    → replyTo (recordLine (fields ds headBytes 2 (field ds 17 1))) ≡ servedWith ds
+    → replyTo (recordLine (fields ds headBytes 2 (field ds partsAt 1))) ≡ servedWith ds
 unfolding atLine endsWithChain
 at-then-record n i ds e = reply-leads (atLine n i) ds at-line (first-byte at-line _) tt e .burned

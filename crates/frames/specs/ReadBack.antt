@@ -11,7 +11,7 @@ use lib.Seq.{take-at, drop-append-add}
 use Rattle.digits.specs.Digits.{digitsOf}
 use Rattle.digits.specs.DigitLaws.{length-digits, number-digits}
 use Rattle.lines.specs.Lines.{field, fields}
-use Rattle.frames.specs.ReplyDigits.{countDigits, valuesDigits, numbersDigits, headDigits, headBytes, chainDigits}
+use Rattle.frames.specs.ReplyDigits.{countDigits, valuesDigits, numbersDigits, headDigits, positionAt, partsAt, headBytes, chainDigits}
 use Rattle.frames.specs.ReplyDigits.{pricedDigits}
 use Rattle.frames.specs.ReplyDigitLaws.{length-head, length-chain}
 
@@ -70,8 +70,8 @@ count-read count h = (
 pub record ChainRead (n position : ℕ) (numbers ds : List ℕ) : Type 0 where
   pub zero-first : field ds 0 1 ≡ 0
   pub number : field ds 1 8 ≡ n
-  pub position-read : field ds 9 8 ≡ position
-  pub parts : field ds 17 1 ≡ length numbers
+  pub position-read : field ds positionAt 8 ≡ position
+  pub parts : field ds partsAt 1 ≡ length numbers
   pub each : fields ds headBytes 2 (length numbers) ≡ numbers
 
 module _ (n position : ℕ) (numbers rest : List ℕ) (f : n < 2 ^ 64) (g : position < 2 ^ 64) (few : length numbers ≤ 64)

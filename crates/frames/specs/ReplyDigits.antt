@@ -21,9 +21,15 @@ numbersDigits numbers = valuesDigits 2 numbers
 unfoldable pub headDigits : ℕ → ℕ → List ℕ → List ℕ
 headDigits n position numbers = digitsOf 2 0 ++ digitsOf 16 n ++ digitsOf 16 position ++ digitsOf 2 (length numbers)
 
--- How many bytes these are (`length-head`).
+-- At which byte of it the position and the number of parts stand, and how many bytes it has (`length-head`).
+abbrev pub positionAt : ℕ
+positionAt = 1 + 8
+
+abbrev pub partsAt : ℕ
+partsAt = positionAt + 8
+
 abbrev pub headBytes : ℕ
-headBytes = 1 + 8 + 8 + 1
+headBytes = partsAt + 1
 
 -- A chain: its head, then its part numbers.
 unfoldable pub chainDigits : ℕ → ℕ → List ℕ → List ℕ

@@ -260,7 +260,7 @@ numbers-fit n c h f = λ i l. omega (arith, judged-sum (map partNumber c) n .0 (
 pub position-low : (n : ℕ) (c : List Part) → ChainOf n c → n < 2 ^ 64 → position n c + 1 < 2 ^ 64
 position-low n c h f = omega (arith, at-position n c h .0, count-fits n f)
 
--- Whatever follows, as the price does.
+-- A chain's reply is read back also where more follows, as the price does.
 pub reply-read : (n : ℕ) (c : List Part) (rest : List ℕ) → ChainOf n c → n < 2 ^ 64
     → ChainRead n (position n c) (map partNumber c) (chainDigits n (position n c) (map partNumber c) ++ rest)
 reply-read n c rest h f =

@@ -1,4 +1,4 @@
--- Part numbers: document 01, 'Parts and chains'. A part's number is its place in the part table, from 0.
+-- Part numbers: document 01, 'Parts and chains'. A part's number is its index in the part table, from 0.
 -- Definitions only; the theory is in Numbers.
 use mathlib.Core.Bool.{true, false, cond}
 use mathlib.Core.List.{List, [], _∷_}
@@ -37,7 +37,7 @@ unfoldable pub smaller : ℕ → List ℕ → ℕ
 smaller v [] = 0
 smaller v (x ∷ xs) = one-if (ltb x v) + smaller v xs
 
--- A part's place in the table: how many entries are smaller.
+-- A part's number: how many entries of the table are smaller.
 unfoldable pub partNumber : Part → ℕ
 partNumber p = smaller (value p) parts
 
