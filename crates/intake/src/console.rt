@@ -1,6 +1,6 @@
 // Standard input answered to standard output: document 01, 'Frames'. What is answered is the crate stream's; here are the calls
-// that read and write, of which no contract can say which bytes they move. What a read brings is answered, and the replies are written, before
-// the next read, so that a person at a pipe gets a reply to each line. Memory does not grow with the input.
+// that read and write, of which no contract can say which bytes they move. What a read brings is answered, and the replies are
+// written, before the next read, so that a person at a pipe gets a reply to each line. Memory does not grow with the input.
 use libc::STDIN_FILENO;
 use libc::STDOUT_FILENO;
 use stream::Ended;
