@@ -185,18 +185,6 @@ module _ (n : ℕ) (entry l : List ℕ) (e : l ≡ tableLeft n entry) (h : scrat
       → putMid 0 scratchSize l ys ≡ scratchLeft (littleScratch entry) entry
   table-cleared ys z = cleared scratchSize entry l ys table-room (table-rows .later) z ∙ sym (served-zeroed entry h)
 
--- The same for callers, with both cases: the rows are filled where the scratch has room, else nothing was touched.
-pub record TableAsked (n : ℕ) (entry exit : List ℕ) : Type 0 where
-  pub there : scratchSize ≤ length entry → CountsIn n entry exit
-  pub untouched : length entry < scratchSize → exit ≡ entry
-
-pub table-asked : (n : ℕ) (entry l : List ℕ) → l ≡ tableLeft n entry → TableAsked n entry l
-table-asked n entry l e =
-    record { there = λ h. table-rows n entry l e h; untouched = λ h. e ∙ table-refused n entry h }
-
-pub asked-still-room : {n : ℕ} {entry l : List ℕ} → TableAsked n entry l → scratchSize ≤ length entry → scratchSize ≤ length l
-asked-still-room f h = omega (arith, f .there h .same)
-
 -- ---- both counts
 
 -- Document 01, 'Counting by the remainder': both agree where both serve.

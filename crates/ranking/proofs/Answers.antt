@@ -1,6 +1,6 @@
--- How the answers and the lent memory of the services come out, case by case. In order: a scratch too small, and one that is not;
--- the scratch with a table; a record by its word; a word by its parts; too little lent to a service with places, and enough; the
--- chain at a position; the next chain of a word.
+-- How the answers and the lent memory of the services come out, case by case. In order: a scratch too small, and one that is not; a
+-- record by its word; a word by its parts; too little lent to a service with places, and enough; the chain at a position; the next
+-- chain of a word.
 use mathlib.Core.Path.{_≡_, refl, sym, ap, _∙_}
 use mathlib.Core.Bool.{Bool, true, false}
 use mathlib.Core.List.{List, [], List·Memᴰ}
@@ -10,7 +10,6 @@ use native.Mathlib.Omega.{arith}
 use lib.Dec.{T, ltb}
 use lib.ListN.{length, take}
 use borrow.Author.Tests.{le-ltb}
-use Rattle.counting.specs.TableLaws.{TableAsked, asked-still-room}
 use Rattle.lent.specs.LentLaws.{filled-first, scratch-little, scratch-enough, enough}
 use Rattle.chains.specs.Words.{Word, wordOf, chainOf, reads}
 use Rattle.chains.specs.Listing.{listOf, count, countBefore, position, chainAt}
@@ -33,7 +32,7 @@ use Rattle.words.specs.declared.Parted.the-variants as parted
 use Rattle.ranking.specs.Services.{Outcome, refused, gives, lentScratch, lent}
 use Rattle.ranking.specs.Services.{placedOf, answerOf, placesLeft, judgedAs, ofRecord, ofWord, standing, after, nextOf}
 use Rattle.ranking.specs.Outcomes.{standing-below, of-chain, of-gives, of-weighed, of-over, position-word}
-use Rattle.ranking.specs.Walks.{wordAt, WordFound, Tabled}
+use Rattle.ranking.specs.Walks.{wordAt, WordFound}
 use Rattle.ranking.specs.declared.Placed.the-variants as placed
 use Rattle.ranking.specs.declared.Found.{Found}
 use Rattle.ranking.specs.declared.Found.the-variants as found
@@ -51,17 +50,6 @@ pub scratch-served : (s t : List ℕ) (o : Outcome) (r : placed.the-data) → sc
     → (r ≡ placedOf (lentScratch s o)) × (t ≡ scratchLeft (littleScratch s) s)
 unfolding lentScratch scratchLeft
 scratch-served s t o r h e f = rw (scratch-enough s h) (e, f)
-
--- ---- the scratch with a table
-
--- Where the scratch has room, the table is there, and zeroing it leaves what zeroing it at entry would.
-module _ {n : ℕ} {entry l : List ℕ} (f : TableAsked n entry l) (h : scratchSize ≤ length entry) where
-  pub filled-table : Tabled n l
-  filled-table = record { size = asked-still-room f h; table = f .there h .rows }
-
-  pub filled-again : filled scratchSize [] l ≡ filled scratchSize [] entry
-  unfolding filled
-  filled-again = rw (f .there h .later)
 
 -- ---- a record
 

@@ -1,7 +1,7 @@
 -- What the walks over a count table, and the calls around them, ask for and keep. Only private functions cite these definitions;
 -- what the services answer and leave behind is in Services.
 -- In order: the table and its points; the walk from a word to its position; the walk from a position to its word; the calls that
--- fill, use and zero the table. The laws by which a walk starts, goes on and ends are in the proofs, Walked.
+-- fill, use and zero the table. The laws by which a walk starts, goes on and ends are in RankLaws, and in the proofs, Walked.
 use mathlib.Core.Path.{_≡_}
 use mathlib.Core.Bool.{Bool, true}
 use mathlib.Core.List.{List, [], _∷_, _++_, List·Memᴰ}

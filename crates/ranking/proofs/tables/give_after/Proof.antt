@@ -2,9 +2,8 @@
 use mathlib.Core.Path.{_∙_}
 use native.Mathlib.Omega.{arith}
 use borrow.Author.Needs.{needs}
-use Rattle.counting.specs.TableLaws.{told-count, told-refused, table-asked}
-use Rattle.ranking.proofs.Walked.{next-fits}
-use Rattle.ranking.proofs.Answers.{filled-table, filled-again}
+use Rattle.counting.specs.TableLaws.{told-count, told-refused}
+use Rattle.ranking.specs.RankLaws.{filled-table, filled-again, next-fits}
 use Rattle.ranking.proofs.tables.give_after.Statement.{statement}
 use Rattle.ranking.proofs.tables.give_after.Tie as tie
 
@@ -18,7 +17,7 @@ rank-of-requires : tie.Need-rank-of-requires
 rank-of-requires c κs =
     let f = c .before .before .before .before .before .before in
     let s = f .before .before .before .before .before in
-    record { counts = filled-table (table-asked _ _ _ (f .fill-counts .ensures .1)) (s .pre .0 .room); member = s .pre .0 .member }
+    record { counts = filled-table _ _ _ (f .fill-counts .ensures .1) (s .pre .0 .room); member = s .pre .0 .member }
 
 add-give-at : tie.Need-add-give-at
 add-give-at c =
@@ -31,7 +30,7 @@ give-at-requires c κs =
     let f = told .before .before .before .before in
     let s = f .before .before .before .before .before in
     record {
-      counts = filled-table (table-asked _ _ _ (f .fill-counts .ensures .1)) (s .pre .0 .room);
+      counts = filled-table _ _ _ (f .fill-counts .ensures .1) (s .pre .0 .room);
       number = told-count _ _ (f .fill-counts .ensures .0) (told .count .given .1) .1;
       room = s .pre .1;
     }
@@ -43,7 +42,7 @@ returns-2 c =
     let f = k .before .before .before .before .before .before .before in
     let s = f .before .before .before .before .before in
     let (answer, (places, scratch)) = g .give-at .ensures in
-    rw (← k .rank-of .ensures) (answer, (places, scratch ∙ filled-again (table-asked _ _ _ (f .fill-counts .ensures .1)) (s .pre .0 .room)))
+    rw (← k .rank-of .ensures) (answer, (places, scratch ∙ filled-again _ _ _ (f .fill-counts .ensures .1) (s .pre .0 .room)))
 
 pub give-after-spec : {M : Type 1} → statement M
 give-after-spec =

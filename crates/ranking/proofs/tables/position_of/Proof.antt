@@ -1,22 +1,22 @@
 -- `position_of` meets its contract: the table is filled where there is room, and zeroing it leaves what zeroing the scratch would.
 use mathlib.Core.Path.{_∙_}
 use borrow.Author.Needs.{needs}
-use Rattle.counting.specs.TableLaws.{table-asked}
-use Rattle.ranking.proofs.Answers.{filled-table, filled-again}
+use Rattle.ranking.specs.RankLaws.{filled-table, filled-again}
 use Rattle.ranking.proofs.tables.position_of.Statement.{statement}
 use Rattle.ranking.proofs.tables.position_of.Tie as tie
 
 rank-of-requires : tie.Need-rank-of-requires
 rank-of-requires c κs =
-    let s = c .before .before .before .before .before .before .before in
-    record { counts = filled-table (table-asked _ _ _ (c .before .before .before .fill-counts .ensures .1)) (s .pre .room); member = s .pre .member }
+    let f = c .before .before .before in
+    let s = f .before .before .before .before in
+    record { counts = filled-table _ _ _ (f .fill-counts .ensures .1) (s .pre .room); member = s .pre .member }
 
 returns : tie.Need-returns
 returns c =
     let r = c .before .before .before .before in
     let f = r .before .before .before .before in
     let s = f .before .before .before .before in
-    (r .rank-of .ensures, c .before .before .clear .ensures ∙ filled-again (table-asked _ _ _ (f .fill-counts .ensures .1)) (s .pre .room))
+    (r .rank-of .ensures, c .before .before .clear .ensures ∙ filled-again _ _ _ (f .fill-counts .ensures .1) (s .pre .room))
 
 pub position-of-spec : {M : Type 1} → statement M
 position-of-spec =

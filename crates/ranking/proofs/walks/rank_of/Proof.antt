@@ -5,7 +5,7 @@ use native.Mathlib.Omega.{arith}
 use lib.ListN.{length}
 use borrow.Author.Needs.{needs}
 use Rattle.ranking.specs.Walks.{RankWalked}
-use Rattle.ranking.proofs.Walked.{rank-start, rank-end}
+use Rattle.ranking.specs.RankLaws.{rank-start, rank-end}
 use Rattle.ranking.proofs.walks.rank_of.Statement.{statement}
 use Rattle.ranking.proofs.walks.rank_of.Tie as tie
 

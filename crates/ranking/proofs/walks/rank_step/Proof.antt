@@ -1,7 +1,7 @@
 -- `rank_step` meets its contract: a letter 0 or 1 is a rise of a, and at a letter 2 or 3 the words with a rise of a stand before.
 use native.Mathlib.Omega.{arith}
 use borrow.Author.Needs.{needs}
-use Rattle.ranking.proofs.Walked.{rank-between, rank-a, rank-b}
+use Rattle.ranking.specs.RankLaws.{rank-between, rank-a, rank-b}
 use Rattle.ranking.proofs.walks.rank_step.Statement.{statement}
 use Rattle.ranking.proofs.walks.rank_step.Tie as tie
 

@@ -1,6 +1,6 @@
 -- `rising_a` meets its contract: the words that begin with a rise of a are those of the reader after a has risen, at half the rest.
 use borrow.Author.Needs.{needs}
-use Rattle.ranking.proofs.Walked.{rising-cell}
+use Rattle.ranking.specs.RankLaws.{rising-cell}
 use Rattle.ranking.proofs.walks.rising_a.Statement.{statement}
 use Rattle.ranking.proofs.walks.rising_a.Tie as tie
 
