@@ -2,6 +2,7 @@
 mod choosing;
 mod keys;
 mod placing;
+mod ranks;
 mod walk;
 
 use choosing::Choice;
