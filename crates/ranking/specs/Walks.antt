@@ -40,12 +40,6 @@ pub record RankStart (n : ℕ) (letters : Word) (scratch : List ℕ) : Type 0 wh
   pub counts : Tabled n scratch
   pub member : List·Memᴰ letters (listOf n)
 
--- What a step of it starts from: two letters or more are left.
-pub record RankStep (n : ℕ) (letters : Word) (scratch : List ℕ) (a b before : ℕ) : Type 0 where
-  pub counts : Tabled n scratch
-  pub walked : RankWalked n letters a b before
-  pub left : a + b + 1 < length letters
-
 -- ---- from a position to its word
 
 -- The word at the position i of the list of n.

@@ -2,10 +2,10 @@
 // a word, from the point (0, 0) up; the next letter's index is a + b. Where b rises, the words with a rise of a there stand before.
 ghost use mathlib.Core.Path.{_≡_};
 ghost use mathlib.Core.Bool.{false};
-ghost use Prim.Native.Nat.{_+_, _/_, _<_};
+ghost use Prim.Native.Nat.{_/_};
 ghost use Rattle.grid.specs.Grid.{restAt};
 ghost use Rattle.chains.specs.Listing.{listOf, countBefore, ways};
-ghost use Rattle.ranking.specs.Walks.{Tabled, Between, RankStart, RankStep, RankWalked};
+ghost use Rattle.ranking.specs.Walks.{Tabled, Between, RankStart};
 ghost use Rattle.ranking.specs.Walks.{WordStart, WordStep, WordRisen, WordFound};
 
 // How many words begin with a rise of a at the point (a, b): the number in the next column.
@@ -17,50 +17,23 @@ fn rising_a(n: u64, a: usize, b: usize, scratch: &[u64]) -> u64
     scratch[128 * b + 2 * a + 3]
 }
 
-// A walk along a word: the point, and how many words stand before by the letters passed.
-pub struct RankWalk {
-    pub a: usize,
-    pub b: usize,
-    pub before: u64,
-}
-
-// One letter of the walk along a word.
-fn rank_step(n: u64, letters: &[u8], scratch: &[u64], w: RankWalk) -> RankWalk
-    requires { ⌜ RankStep n (now letters) (now scratch) (w .a) (w .b) (w .before) ⌝ }
-    ensures { λ r. ⌜ RankWalked n (now (letters .entry)) (r .a) (r .b) (r .before) × (r .a + r .b ≡ w .a + w .b + 1) ⌝ }
-{
-    let a = w.a;
-    let b = w.b;
-    let at = a + b;
-    if letters[at] <= 1 {
-        return RankWalk {
-            a: a + 1,
-            b,
-            before: w.before,
-        };
-    }
-    let rising = rising_a(n, a, b, scratch);
-    RankWalk {
-        a,
-        b: b + 1,
-        before: w.before + rising,
-    }
-}
-
 // The position in the list of n of a word that stands there.
 pub fn rank_of(n: u64, letters: &[u8], scratch: &[u64]) -> u64
     requires { ⌜ RankStart n (now letters) (now scratch) ⌝ }
     ensures { λ r. ⌜ r ≡ countBefore (now (letters .entry)) (listOf n) ⌝ }
 {
-    let mut w = RankWalk {
-        a: 0,
-        b: 0,
-        before: 0,
-    };
-    while w.a + w.b + 1 < letters.len() {
-        w = rank_step(n, letters, scratch, w);
+    let mut a: usize = 0;
+    let mut b: usize = 0;
+    let mut before: u64 = 0;
+    while a + b + 1 < letters.len() {
+        if letters[a + b] <= 1 {
+            a += 1;
+        } else {
+            before += rising_a(n, a, b, scratch);
+            b += 1;
+        }
     }
-    w.before
+    before
 }
 
 // A walk along the word at a position: the point, what is left of n there, the position left, and the letter passed last.
