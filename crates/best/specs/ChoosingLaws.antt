@@ -4,13 +4,17 @@
 -- with the table in the scratch ask and give.
 use mathlib.Core.Path.{_≡_, refl, sym, subst, _∙_}
 use mathlib.Core.Bool.{true}
-use mathlib.Core.List.{List}
+use mathlib.Core.List.{List, [], map}
 use mathlib.Core.Option.{Option, none, some}
 use Prim.Native.Nat.{ℕ, _+_, _*_, _/_, _%_, _^_, _≤_, _<_}
 use native.Mathlib.Omega.{arith}
 use lib.Dec.{T}
-use lib.ListN.{length, getD, take}
+use lib.ListN.{length, getD, take, length-map}
 use borrow.Author.Tests.{le-leb, lt-leb}
+use borrow.Rule.Slice.PartMut.{midOf, putMid}
+use Rattle.lent.specs.Lent.{zeros, filled, Enough}
+use Rattle.lent.specs.LentLaws.{length-filled, cleared, over-zeros}
+use Rattle.parts.specs.Parts.{partNumber}
 use Rattle.chains.specs.Chains.{Part, ChainOf, total}
 use Rattle.chains.specs.Words.{Word, origin, chainFrom, chainOf, reads}
 use Rattle.chains.specs.Listing.{wordsAt}
@@ -29,24 +33,30 @@ use Rattle.best.specs.declared.choosing.Choice.the-variants as choice
 use Rattle.best.specs.KeyTable.{partWeight, noKey, Low, letterCosts, Cheap, keyCell}
 use Rattle.best.specs.KeyTableLaws.{prices-low, prices-costs}
 use Rattle.best.specs.KeyRows.{RowsOfKeys}
-use Rattle.best.specs.Walk.{Keyed, KeyStart, BestWritten}
-use Rattle.best.specs.WalkLaws.{least-of-all}
+use Rattle.best.specs.Walk.{Keyed, bestFrom, bestWord, KeyStart, BestWritten}
+use Rattle.best.specs.WalkLaws.{least-of-all, best-chosen}
 use Rattle.best.specs.Choosing.{ChoosingAsked, Used, WordChosen, ChosenBy}
 
 -- By the case that was met.
-module _ (n : ℕ) (lim : Limits) (π : Prices) (letters : List ℕ) (r : Choice) (h : ChosenBy n lim π letters r) where
-  pub by-word : {k p : ℕ} → r ≡ choice.Word k p → WordChosen n lim π letters k p
-  by-word e = subst (ChosenBy n lim π letters) e h
+module _
+    (n : ℕ) (lim : Limits) (π : Prices) (letters entry exit : List ℕ) (r : Choice) (h : ChosenBy n lim π letters entry exit r)
+  where
+    pub by-word : {i k p : ℕ} → r ≡ choice.Word i k p → ChosenBy n lim π letters entry exit (choice.Word i k p)
+    by-word e = subst (ChosenBy n lim π letters entry exit) e h
 
-  pub by-nothing : r ≡ choice.Nothing → bestChain n lim π ≡ none
-  by-nothing e = subst (ChosenBy n lim π letters) e h
+    pub by-nothing : r ≡ choice.Nothing → (bestChain n lim π ≡ none) × (exit ≡ entry)
+    by-nothing e = subst (ChosenBy n lim π letters entry exit) e h
 
 -- ---- the number 0
 
-pub zero-chosen : (n : ℕ) (lim : Limits) (π : Prices) (letters : List ℕ) → n ≡ 0 → WordChosen n lim π letters 0 0
+pub zero-chosen : (n : ℕ) (lim : Limits) (π : Prices) (letters entry : List ℕ) {ys : List ℕ} → n ≡ 0 → 64 ≤ length entry
+    → ys ≡ zeros (length (midOf 0 64 entry))
+    → ChosenBy n lim π letters entry (putMid 0 64 entry ys) (choice.Word 0 0 0)
 unfolding reads total chainOf chainFrom price
-zero-chosen n lim π letters e =
-    record { good = tt; number = sym e; chain = rw e (best-of-zero lim π); told = refl; room = omega arith }
+zero-chosen n lim π letters entry {ys} e h z = (
+  record { good = tt; number = sym e; chain = rw e (best-of-zero lim π); parts = refl; told = refl; room = omega arith },
+  cleared 64 entry entry ys h refl z,
+)
 
 -- ---- the least key
 
@@ -87,18 +97,26 @@ module _ {n : ℕ} (lim : Limits) (π : Prices) (fits : n < 2 ^ 64) (cheap : Che
       go none e = refl
       go (some w) e = rw (lt-leb (length (chainOf w)) (lim .K) (omega (arith, least-tells w e)))
 
-  pub word-within : (letters : List ℕ) (k : ℕ) → best ≡ some (take k letters) → k ≤ 64 → leastOf / partWeight ≤ lim .K
-      → WordChosen n lim π letters k (leastOf % partWeight)
+  -- The best word is good and has as many parts as the least key counts.
+  pub word-parts : (w : Word) → best ≡ some w → T (reads true w) × (leastOf / partWeight ≡ length (chainOf w)) × (length (chainOf w) ≤ 64)
+  word-parts w e =
+      let m = listed w e in
+      let c : ChainOf n (chainOf w) = record { chained = word-chained w; sums = m .1 } in
+      (m .0, omega (arith, least-tells w e), parts-bound n 64 (chainOf w) c fits)
+
+  pub word-within : (letters : List ℕ) (i : ℕ) → best ≡ some (take i letters) → i ≤ 64 → leastOf / partWeight ≤ lim .K
+      → WordChosen n lim π letters i (leastOf / partWeight) (leastOf % partWeight)
   unfolding leastKeyed upTo
-  word-within letters k e room h =
-      let t = least-tells (take k letters) e in
-      let m = listed (take k letters) e in
+  word-within letters i e room h =
+      let t = least-tells (take i letters) e in
+      let m = listed (take i letters) e in
       record {
         good = m .0;
         number = m .1;
         chain =
             sym (keyed-is-best partWeight n lim π all-fit)
-            ∙ rw (e, le-leb (length (chainOf (take k letters))) (lim .K) (omega arith));
+            ∙ rw (e, le-leb (length (chainOf (take i letters))) (lim .K) (omega arith));
+        parts = omega arith;
         told = omega arith;
         room = room;
       }
@@ -107,42 +125,84 @@ module _ {n : ℕ} (lim : Limits) (π : Prices) (fits : n < 2 ^ 64) (cheap : Che
 
 -- What is at hand when the table is filled: the costs of the prices, a number of 64 bits that is not 0, prices of 16 bits, a limit
 -- on parts of 8 bits.
-pub record Begun (costs : List ℕ) (n : ℕ) (lim : Limits) (π : Prices) (scratch letters : List ℕ) : Type 0 where
+pub record Begun (costs : List ℕ) (n : ℕ) (lim : Limits) (π : Prices) (scratch letters places : List ℕ) : Type 0 where
   pub costs-are : costs ≡ letterCosts π
   pub fits : n < 2 ^ 64
   pub some-left : 1 ≤ n
   pub cheap : Cheap π
   pub byte : lim .K < 2 ^ 8
-  pub asked : ChoosingAsked scratch letters
+  pub asked : ChoosingAsked scratch letters places
 
-module _ {costs : List ℕ} {n : ℕ} {lim : Limits} {π : Prices} {entry letters : List ℕ} (b : Begun costs n lim π entry letters) where
-  low : Low costs
-  low = rw (b .costs-are) (prices-low π (b .cheap))
+module _
+    {costs : List ℕ} {n : ℕ} {lim : Limits} {π : Prices} {entry letters places : List ℕ}
+    (b : Begun costs n lim π entry letters places)
+  where
+    low : Low costs
+    low = rw (b .costs-are) (prices-low π (b .cheap))
 
-  pub fill-asked : RowsOfKeys costs 0 n entry
-  fill-asked =
-      record { low = low; asked = record { last = omega arith; room = b .asked .size; below = omega (arith, b .fits) } }
+    pub fill-asked : RowsOfKeys costs 0 n entry
+    fill-asked =
+        record { low = low; asked = record { last = omega arith; room = b .asked .lent .numbers; below = omega (arith, b .fits) } }
 
-  module _ {l : List ℕ} (f : RowsFilled (keyCell costs (lim .A) (lim .B)) 0 n entry l) where
-    keyed : Keyed costs (lim .A) (lim .B) n l
-    keyed = record { low = low; size = omega (arith, b .asked .size, f .same); table = f .rows }
+    module _ {l : List ℕ} (f : RowsFilled (keyCell costs (lim .A) (lim .B)) 0 n entry l) where
+      keyed : Keyed costs (lim .A) (lim .B) n l
+      keyed = record { low = low; size = omega (arith, b .asked .lent .numbers, f .same); table = f .rows }
 
-    key-is : getD l 0 0 ≡ leastKey noKey (costsOf partWeight π) (lim .A) (lim .B) true origin n
-    key-is = least-of-all keyed (b .some-left) ∙ rw (b .costs-are, prices-costs)
+      key-is : getD l 0 0 ≡ leastKey noKey (costsOf partWeight π) (lim .A) (lim .B) true origin n
+      key-is = least-of-all keyed (b .some-left) ∙ rw (b .costs-are, prices-costs)
 
-    pub filled-used : Used entry l
-    filled-used = record { same = f .same; later = f .later }
+      pub filled-used : Used entry l
+      filled-used = record { same = f .same; later = f .later }
 
-    pub filled-none : lim .K < getD l 0 0 / partWeight → bestChain n lim π ≡ none
-    filled-none h = none-within lim π (b .fits) (b .cheap) (rw key-is at h)
+      pub filled-none : lim .K < getD l 0 0 / partWeight → bestChain n lim π ≡ none
+      filled-none h = none-within lim π (b .fits) (b .cheap) (rw key-is at h)
 
-    module _ (h : getD l 0 0 / partWeight ≤ lim .K) where
-      pub write-asked : KeyStart costs (lim .A) (lim .B) n l letters
-      write-asked =
-          record { keys = keyed; some-left = b .some-left; found = omega (arith, b .byte); room = b .asked .room }
+      module _ (h : getD l 0 0 / partWeight ≤ lim .K) where
+        found : getD l 0 0 < noKey
+        found = omega (arith, b .byte)
 
-      pub filled-word : {exit : List ℕ} (k : ℕ) → BestWritten costs (lim .A) (lim .B) n k exit
-          → WordChosen n lim π exit k (getD l 0 0 % partWeight)
-      filled-word {exit} k w =
-          rw key-is
-          (word-within lim π (b .fits) (b .cheap) exit k (rw (b .costs-are, prices-costs) at (w .word)) (w .room) (rw key-is at h))
+        -- The best word of the table, and that it is good and has the parts that the key counts.
+        chosen : bestFrom costs (lim .A) (lim .B) true 0 0 n ≡ some (bestWord costs (lim .A) (lim .B) n)
+        chosen = best-chosen keyed (b .some-left) found
+
+        parted : let w = bestWord costs (lim .A) (lim .B) n in
+            T (reads true w) × (getD l 0 0 / partWeight ≡ length (chainOf w)) × (length (chainOf w) ≤ 64)
+        parted = go (bestWord costs (lim .A) (lim .B) n) chosen
+          where
+            go : (w : Word) → bestFrom costs (lim .A) (lim .B) true 0 0 n ≡ some w
+                → T (reads true w) × (getD l 0 0 / partWeight ≡ length (chainOf w)) × (length (chainOf w) ≤ 64)
+            go w e = rw key-is (word-parts lim π (b .fits) (b .cheap) w (rw (b .costs-are, prices-costs) at e))
+
+        -- The places are zeroed: ys stand in the first 64.
+        module _ {ys : List ℕ} (z : ys ≡ zeros (length (midOf 0 64 places))) where
+          back : putMid 0 64 places ys ≡ filled 64 [] places
+          back = cleared 64 places places ys (b .asked .lent .room) refl z
+
+          pub write-asked : KeyStart costs (lim .A) (lim .B) n (getD l 0 0 / partWeight) l letters (putMid 0 64 places ys)
+          write-asked =
+              record {
+                keys = keyed;
+                some-left = b .some-left;
+                found = found;
+                good = parted .0;
+                parts = parted .1;
+                room = b .asked .room;
+                enough = rw back (omega (arith, parted, length-filled 64 [] places (omega arith) (b .asked .lent .room)));
+              }
+
+          pub filled-word : {exit exit′ : List ℕ} {i : ℕ}
+              → BestWritten costs (lim .A) (lim .B) n (getD l 0 0 / partWeight) i exit (putMid 0 64 places ys) exit′
+              → ChosenBy n lim π exit places exit′ (choice.Word i (getD l 0 0 / partWeight) (getD l 0 0 % partWeight))
+          filled-word {exit} {exit′} {i} w = (word, numbers)
+            where
+              word : WordChosen n lim π exit i (getD l 0 0 / partWeight) (getD l 0 0 % partWeight)
+              word =
+                  rw key-is
+                  (word-within lim π (b .fits) (b .cheap) exit i (rw (b .costs-are, prices-costs) at (w .word)) (w .room)
+                  (rw key-is at h))
+
+              numbers : exit′ ≡ filled 64 (map partNumber (chainOf (take i exit))) places
+              numbers =
+                  let c = chainOf (take i exit) in
+                  let k : getD l 0 0 / partWeight ≡ length (map partNumber c) = word .parts ∙ sym (length-map c partNumber) in
+                  rw (back, k) at (w .stored) ∙ over-zeros 64 (map partNumber c) places (omega (arith, word .parts, parted))

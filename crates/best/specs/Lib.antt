@@ -3,9 +3,8 @@
 -- What the contracts of the private functions name; the laws of X are in XLaws:
 --   KeyTable  what a cell of the key table holds
 --   KeyRows   what the calls that fill the key table ask and leave
---   Walk      the walk along it that writes the best word
+--   Walk      the walk along it that writes the best word and the numbers of its parts
 --   Choosing  the word of the best chain within limits
---   Placing   what placing the chosen word answers
 pub mod Chosen
 pub mod KeyTable
 pub mod KeyTableLaws
@@ -15,6 +14,5 @@ pub mod Walk
 pub mod WalkLaws
 pub mod Choosing
 pub mod ChoosingLaws
-pub mod Placing
-pub mod PlacingLaws
+pub mod ChosenLaws
 pub mod Demand3

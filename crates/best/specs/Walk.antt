@@ -1,17 +1,20 @@
--- The walk along a table of keys that writes the best word: what it asks and gives.
+-- The walk along a table of keys that writes the best word and the numbers of its parts: what it asks and gives.
 --
 -- In this order: the table, and the best word; what holds of the walk at a point, what a step asks and gives, and what the whole
 -- walk does. Definitions only; the laws are in WalkLaws.
 use mathlib.Core.Path.{_≡_}
 use mathlib.Core.Bool.{Bool, true}
-use mathlib.Core.List.{List, [], _∷_, _++_}
+use mathlib.Core.List.{List, [], _∷_, _++_, map}
 use mathlib.Core.Option.{Option, none, some}
-use Prim.Native.Nat.{ℕ, _+_, _≤_, _<_}
+use Prim.Native.Nat.{ℕ, _+_, _-_, _/_, _≤_, _<_}
+use lib.Dec.{T}
 use lib.ListN.{length, getD, take, drop}
 use Rattle.lent.specs.Lent.{scratchSize}
-use Rattle.chains.specs.Words.{Word}
+use Rattle.chains.specs.Words.{Word, chainOf, reads}
 use Rattle.chains.specs.Keys.{bestAt}
 use Rattle.grid.specs.Grid.{Table, restAt}
+use Rattle.parts.specs.Parts.{partNumber}
+use Rattle.words.specs.Storing.{Storing}
 use Rattle.best.specs.KeyTable.{noKey, costsBy, Low, keyCell}
 
 -- ---- the table and the best word
@@ -44,11 +47,13 @@ pub record KeyWalked (costs : List ℕ) (A B n a b : ℕ) (free : Bool) (rest : 
   pub low : keyCell costs A B a b free rest < noKey
   pub follows : bestFrom costs A B free a b rest ≡ some (drop (a + b) (bestWord costs A B n))
 
--- It has passed one letter more, which is `letter`.
+-- It has passed one letter more, which is `letter`: b has risen where it is 2 or 3, and a where it is less.
 pub record KeyRisen (costs : List ℕ) (A B n a b letter a′ b′ : ℕ) (free : Bool) (rest : ℕ) : Type 0 where
   pub walked : KeyWalked costs A B n a′ b′ free rest
   pub passed : a′ + b′ ≡ a + b + 1
-  pub spelled : take (a + b + 1) (bestWord costs A B n) ≡ take (a + b) (bestWord costs A B n) ++ (letter ∷ [])
+  pub point-a : a′ ≡ a + (1 - letter / 2)
+  pub point-b : b′ ≡ b + letter / 2
+  pub next : drop (a + b) (bestWord costs A B n) ≡ letter ∷ drop (a + b + 1) (bestWord costs A B n)
 
 -- What the key by a rise of b asks, at the remainder `rem` by three: at 2 the number above may be any.
 pub record ThirdAsked (costs : List ℕ) (rem above : ℕ) : Type 0 where
@@ -63,23 +68,31 @@ pub record KeyStep (costs : List ℕ) (A B n : ℕ) (scratch : List ℕ) (a b : 
   pub low-a : a < 63
   pub low-b : b < 40
 
--- What the walk asks: the table, where something is left and the least key is that of a word, and room for the letters.
-pub record KeyStart (costs : List ℕ) (A B n : ℕ) (scratch letters : List ℕ) : Type 0 where
+-- What the walk asks: the table, where something is left and the least key is that of a word; that the best word is a good one with k
+-- parts; room for the letters, and for the numbers of the parts.
+pub record KeyStart (costs : List ℕ) (A B n k : ℕ) (scratch letters places : List ℕ) : Type 0 where
   pub keys : Keyed costs A B n scratch
   pub some-left : 1 ≤ n
   pub found : getD scratch 0 0 < noKey
+  pub good : T (reads true (bestWord costs A B n))
+  pub parts : k ≡ length (chainOf (bestWord costs A B n))
   pub room : 64 ≤ length letters
+  pub enough : k ≤ length places
 
--- The letters up to (a, b) are written.
-pub record KeyWriting (costs : List ℕ) (A B n : ℕ) (entry letters : List ℕ) (a b : ℕ) (free : Bool) (rest : ℕ) : Type 0 where
+-- The letters up to (a, b) are written, and the numbers of the parts met are stored.
+pub record KeyWriting
+    (costs : List ℕ) (A B n k : ℕ) (entry letters before places : List ℕ) (a b : ℕ) (free : Bool) (rest left : ℕ) : Type 0 where
   pub walked : KeyWalked costs A B n a b free rest
   pub chosen : bestFrom costs A B true 0 0 n ≡ some (bestWord costs A B n)
   pub written : take (a + b) letters ≡ take (a + b) (bestWord costs A B n)
   pub low : a + b < 64
   pub room : 64 ≤ length letters
   pub same : length letters ≡ length entry
+  pub storing : Storing (chainOf (bestWord costs A B n)) (drop k before) (length before) (drop (a + b) (bestWord costs A B n)) places
+      a b left
 
--- What it gives: the first k letters are the best word.
-pub record BestWritten (costs : List ℕ) (A B n k : ℕ) (letters : List ℕ) : Type 0 where
-  pub word : bestFrom costs A B true 0 0 n ≡ some (take k letters)
-  pub room : k ≤ 64
+-- What it gives: the first i letters are the best word, and the numbers of its parts stand in the first k places.
+pub record BestWritten (costs : List ℕ) (A B n k i : ℕ) (letters before places : List ℕ) : Type 0 where
+  pub word : bestFrom costs A B true 0 0 n ≡ some (take i letters)
+  pub room : i ≤ 64
+  pub stored : places ≡ map partNumber (chainOf (take i letters)) ++ drop k before

@@ -6,22 +6,25 @@ use mathlib.Core.Path.{_≡_, refl, sym, ap, ap₂, _∙_}
 use mathlib.Core.Bool.{Bool, true, false, cond}
 use mathlib.Core.List.{List, [], _∷_, _++_}
 use mathlib.Core.Option.{Option, none, some, Option·none-ne-some}
-use Prim.Native.Nat.{ℕ, zero, suc, _+_, _*_, _/_, _%_, _^_, _≤_, _<_, min}
+use Prim.Native.Nat.{ℕ, zero, suc, _+_, _-_, _*_, _/_, _%_, _^_, _≤_, _<_, min}
 use native.Mathlib.Nat.{div-mul-le-self}
 use native.Mathlib.Numerals.{add-one}
 use native.Mathlib.Omega.{arith}
 use lib.Dec.{T}
 use lib.Pow.{shr-le}
-use lib.ListN.{getD, set, drop, length-set, take-append-drop}
+use lib.ListN.{length, getD, set, take, drop, length-set, take-append-drop}
 use Rattle.grid.specs.Grid.{restAt}
 use Rattle.chains.specs.Chains.{Part}
 use Rattle.chains.specs.Words.{Word, origin, right, up}
 use Rattle.chains.specs.Members.{rises}
 use Rattle.chains.specs.Keys.{inside}
-use Rattle.chains.specs.Bests.{lead, keyA, keyB, third-left, best-one, least-step, take-a, take-b, least-told}
+use Rattle.chains.specs.Bests.{lead, keyA, keyB, rises-low, third-left, best-one, least-step, take-a, take-b, least-told}
 use Rattle.grid.specs.Rests.{below-last-row, rest-origin, rest-right, rest-up, point-bounds}
 use Rattle.grid.specs.Fill.{read-free, read-after-a}
 use Rattle.ranking.specs.Points.{drop-more, take-more, take-stored}
+use Rattle.chains.specs.Marks.{marks}
+use Rattle.parts.specs.Parts.{partNumber}
+use Rattle.words.specs.Storing.{storing-start, storing-more, storing-next, storing-end}
 use Rattle.best.specs.KeyTable.{noKey, letterBy, costsBy, keyCell, thirdKey}
 use Rattle.best.specs.KeyTableLaws.{cell-at-most}
 use Rattle.best.specs.Walk.{Keyed, bestFrom, wordIn, bestWord, KeyWalked, KeyRisen}
@@ -60,24 +63,35 @@ least-of-all {costs} {A} {B} {n} {scratch} k h =
     read-free (keyCell costs A B) n scratch 0 0 (k .table) (omega arith) (omega arith) (rw rest-origin h)
     ∙ ap (keyCell costs A B 0 0 true) (rest-origin n)
 
-module _ {costs : List ℕ} {A B n : ℕ} {scratch letters : List ℕ} (s : KeyStart costs A B n scratch letters) where
-  least-low : keyCell costs A B 0 0 true n < noKey
-  least-low = omega (arith, least-of-all (s .keys) (s .some-left), s .found)
+-- The best word, where the least key is that of a word.
+module _ {costs : List ℕ} {A B n : ℕ} {scratch : List ℕ} (keys : Keyed costs A B n scratch) (some-left : 1 ≤ n) where
+  module _ (found : getD scratch 0 0 < noKey) where
+    least-low : keyCell costs A B 0 0 true n < noKey
+    least-low = omega (arith, least-of-all keys some-left)
 
-  chosen : bestFrom costs A B true 0 0 n ≡ some (bestWord costs A B n)
-  unfolding bestWord wordIn
-  chosen = rw (least-told noKey (costsBy costs) A B true origin n least-low .1)
+    pub best-chosen : bestFrom costs A B true 0 0 n ≡ some (bestWord costs A B n)
+    unfolding bestWord wordIn
+    best-chosen = rw (least-told noKey (costsBy costs) A B true origin n least-low .1)
 
-  pub walk-start : KeyWriting costs A B n letters letters 0 0 true n
-  walk-start =
-      record {
-        walked = record { here = sym (rest-origin n); some-left = s .some-left; low = least-low; follows = chosen };
-        chosen = chosen;
-        written = refl;
-        low = omega arith;
-        room = s .room;
-        same = refl;
-      }
+pub walk-start : {costs : List ℕ} {A B n k : ℕ} {scratch letters places : List ℕ}
+    → KeyStart costs A B n k scratch letters places
+    → KeyWriting costs A B n k letters letters places places 0 0 true n k
+walk-start {costs} {A} {B} {n} {k} {scratch} {letters} {places} s =
+    let chosen = best-chosen (s .keys) (s .some-left) (s .found) in
+    record {
+      walked = record {
+        here = sym (rest-origin n);
+        some-left = s .some-left;
+        low = least-low (s .keys) (s .some-left) (s .found);
+        follows = chosen;
+      };
+      chosen = chosen;
+      written = refl;
+      low = omega arith;
+      room = s .room;
+      same = refl;
+      storing = storing-start (bestWord costs A B n) places k (s .good) (s .parts) (s .enough);
+    }
 
 -- ---- a step
 
@@ -165,22 +179,20 @@ module _
     -- The letter l leads to the point (a′, b′).
     risen : (l : ℕ) (g : Bool) (a′ b′ m : ℕ)
         → lead l (bestFrom costs A B g a′ b′ m) ≡ some (drop (a + b) (bestWord costs A B n))
-        → a′ + b′ ≡ a + b + 1
+        → (a′ + b′ ≡ a + b + 1) × (a′ ≡ a + (1 - l / 2)) × (b′ ≡ b + l / 2)
         → m ≡ restAt n a′ b′
         → 1 ≤ m
         → keyCell costs A B a′ b′ g m < noKey
         → KeyRisen costs A B n a b l a′ b′ g m
     risen l g a′ b′ m e d here h low =
         let v = lead-word l (bestFrom costs A B g a′ b′ m) (drop (a + b) (bestWord costs A B n)) e in
+        let later = drop-more (bestWord costs A B n) (v .0) (a + b) l (v .2) in
         record {
-          walked = record {
-            here = here;
-            some-left = h;
-            low = low;
-            follows = rw (d, drop-more (bestWord costs A B n) (v .0) (a + b) l (v .2)) (v .1);
-          };
-          passed = d;
-          spelled = take-more (bestWord costs A B n) (v .0) (a + b) l (v .2);
+          walked = record { here = here; some-left = h; low = low; follows = rw (d .0, later) (v .1) };
+          passed = d .0;
+          point-a = d .1;
+          point-b = d .2;
+          next = rw later (v .2);
         }
 
     -- a rises where its key is no larger.
@@ -189,7 +201,9 @@ module _
     step-a h =
         let w = s .walked in
         let taken = take-a noKey (costsBy costs) A B free p rest (s .more) (w .low) (omega (arith, half-is, least-is)) in
-        risen (rest % 2) false (a + 1) b (rest / 2) (rw add-one (sym taken ∙ w .follows)) (omega arith) (rw (rest-right, w .here))
+        risen (rest % 2) false (a + 1) b (rest / 2) (rw add-one (sym taken ∙ w .follows))
+        (omega arith, omega arith, omega arith)
+        (rw (rest-right, w .here))
         (omega (arith, s .more))
         (rw add-one (omega (arith, beside-is, least-is, w .low)))
 
@@ -211,7 +225,9 @@ module _
       pub step-b : KeyRisen costs A B n a b (2 + rest % 3) a (b + 1) true (rest / 3)
       step-b =
           let third-more = third-above costs free (rest % 3) above (raised .0) in
-          risen (2 + rest % 3) true a (b + 1) (rest / 3) (rw add-one (raised .1)) (omega arith) (rw (rest-up, s .walked .here))
+          let low = rises-low free (rest % 3) (raised .0) in
+          risen (2 + rest % 3) true a (b + 1) (rest / 3) (rw add-one (raised .1)) (omega arith, omega arith, omega arith)
+          (rw (rest-up, s .walked .here))
           some-third
           (rw add-one (omega (arith, above-is some-third, least-is, s .walked .low)))
 
@@ -219,14 +235,21 @@ module _
 
 module _
     {costs : List ℕ}
-    {A B n a b : ℕ}
+    {A B n k a b : ℕ}
     {free : Bool}
-    {rest : ℕ}
-    {entry letters : List ℕ}
-    (w : KeyWriting costs A B n entry letters a b free rest) where
-  pub walk-more : {l a′ b′ : ℕ} {free′ : Bool} {rest′ : ℕ} → n < 2 ^ 64 → KeyRisen costs A B n a b l a′ b′ free′ rest′
-      → KeyWriting costs A B n entry (set letters (a + b) l) a′ b′ free′ rest′
-  walk-more {l} {a′} {b′} fits r =
+    {rest left : ℕ}
+    {entry letters before places : List ℕ}
+    (w : KeyWriting costs A B n k entry letters before places a b free rest left) where
+  -- A part is to come, and there is a place for its number.
+  pub walk-place : {l a′ b′ : ℕ} {free′ : Bool} {rest′ : ℕ} → KeyRisen costs A B n a b l a′ b′ free′ rest′
+      → (0 < left) × (left ≤ length places) × (l ≤ 3)
+  walk-place r = storing-more (rw (r .next) at (w .storing))
+
+  pub walk-more : {l a′ b′ number : ℕ} {free′ : Bool} {rest′ : ℕ} → n < 2 ^ 64
+      → number ≡ partNumber (record { a = a; b = b })
+      → KeyRisen costs A B n a b l a′ b′ free′ rest′
+      → KeyWriting costs A B n k entry (set letters (a + b) l) before (set places (left - 1) number) a′ b′ free′ rest′ (left - l % 2)
+  walk-more {l} {a′} {b′} fits e r =
       record {
         walked = r .walked;
         chosen = w .chosen;
@@ -234,29 +257,44 @@ module _
             rw (r .passed)
             (take-stored letters (a + b) l (omega (arith, w .low, w .room))
             ∙ ap (λ (v : Word). v ++ (l ∷ [])) (w .written)
-            ∙ sym (r .spelled));
+            ∙ sym (take-more (bestWord costs A B n) _ (a + b) l (r .next)));
         low = point-bounds n a′ b′ fits (rw (r .walked .here) at (r .walked .some-left)) .0;
         room = rw length-set (w .room);
         same = length-set letters (a + b) l ∙ w .same;
+        storing = rw (e, r .passed, r .point-a, r .point-b) (storing-next (rw (r .next) at (w .storing)));
       }
 
-  pub walk-end : rest ≤ 1 → BestWritten costs A B n (a + b + 1) (set letters (a + b) 3)
-  walk-end h =
-      record {
-        word =
-            w .chosen
-            ∙ ap some
-            (sym (take-append-drop (a + b) (bestWord costs A B n))
-            ∙ ap₂ (λ (u v : Word). u ++ v) (sym (w .written)) last
-            ∙ sym (take-stored letters (a + b) 3 (omega (arith, w .low, w .room))));
-        room = omega (arith, w .low);
-      }
-    where
-      end : (i : Bool) (v : Word) → cond i (some (3 ∷ [])) none ≡ some v → v ≡ 3 ∷ []
-      end i v e = let c = cond-word i (some (3 ∷ [])) v e in cc
+  -- Only the last letter is left.
+  module _ (h : rest ≤ 1) where
+    end : (i : Bool) (v : Word) → cond i (some (3 ∷ [])) none ≡ some v → v ≡ 3 ∷ []
+    end i v e = let c = cond-word i (some (3 ∷ [])) v e in cc
 
-      last : drop (a + b) (bestWord costs A B n) ≡ 3 ∷ []
-      last =
-          let one : rest ≡ 1 = omega (arith, w .walked .some-left) in
-          end (inside A B (record { a = a; b = b })) (drop (a + b) (bestWord costs A B n))
-          (sym (best-one (costsBy costs) A B free (record { a = a; b = b })) ∙ rw one at (w .walked .follows))
+    last : drop (a + b) (bestWord costs A B n) ≡ 3 ∷ []
+    last =
+        let one : rest ≡ 1 = omega (arith, w .walked .some-left) in
+        end (inside A B (record { a = a; b = b })) (drop (a + b) (bestWord costs A B n))
+        (sym (best-one (costsBy costs) A B free (record { a = a; b = b })) ∙ rw one at (w .walked .follows))
+
+    -- The largest part is to come, for the first place.
+    pub one-part : (left ≡ 1) × (1 ≤ length places)
+    unfolding marks
+    one-part =
+        let s = rw last at (w .storing) in
+        let m = storing-more s in
+        (s .to-come, omega arith)
+
+    word : bestWord costs A B n ≡ take (a + b + 1) (set letters (a + b) 3)
+    word =
+        sym (take-append-drop (a + b) (bestWord costs A B n))
+        ∙ ap₂ (λ (u v : Word). u ++ v) (sym (w .written)) last
+        ∙ sym (take-stored letters (a + b) 3 (omega (arith, w .low, w .room)))
+
+    pub walk-end : {number : ℕ} → number ≡ partNumber (record { a = a; b = b })
+        → BestWritten costs A B n k (a + b + 1) (set letters (a + b) 3) before (set places 0 number)
+    walk-end e =
+        let first : left - 1 ≡ 0 = omega (arith, one-part .0) in
+        record {
+          word = w .chosen ∙ ap some word;
+          room = omega (arith, w .low);
+          stored = rw (e, ← word, ← first) (storing-end (storing-next (rw last at (w .storing))));
+        }

@@ -2,7 +2,6 @@
 mod choosing;
 mod keys;
 mod placing;
-mod ranks;
 mod walk;
 
 use choosing::Choice;
@@ -61,13 +60,11 @@ pub fn best_chain(
         return Chosen::Refused(1);
     }
     let mut letters = [0u8; 64];
-    match choosing::choose(n, limits, prices, scratch, &mut letters) {
-        Choice::Word { length, price } => placing::place(
-            &letters[0..length],
-            price,
-            scratch,
-            places,
-        ),
+    match choosing::choose(n, limits, prices, scratch, &mut letters, places) {
+        Choice::Word { length, k, price } => {
+            let position = placing::position_of(n, &letters[0..length], scratch);
+            Chosen::Chain { position, k, price }
+        }
         Choice::Nothing => {
             lent::clear_u64(&mut scratch[0..lent::SCRATCH]);
             Chosen::Refused(5)

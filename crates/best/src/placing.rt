@@ -1,24 +1,38 @@
-// Placing: the chain of a chosen word, with its position in the whole list of its number. The word is good and stands for a number
-// below 2^64, and enough is lent, so reading it is never refused.
-use super::Chosen;
-use ranking::Found;
+// The position of a word that is known to stand in the list of its number: a walk over a count table, from the point (0, 0) up,
+// along the letters of the word. The next letter's index is a + b. Where b rises, the words with a rise of a there stand before.
 ghost use mathlib.Core.Path.{_≡_};
-ghost use mathlib.Core.List.{[], map};
-ghost use Rattle.chains.specs.Words.{chainOf};
+ghost use mathlib.Core.List.{[]};
+ghost use Rattle.chains.specs.Listing.{listOf, countBefore};
 ghost use Rattle.lent.specs.Lent.{filled, scratchSize};
-ghost use Rattle.parts.specs.Parts.{partNumber};
-ghost use Rattle.best.specs.Placing.{PlacingAsked, placedOf};
+ghost use Rattle.ranking.specs.Walks.{Listed, RankStart};
 
-// Finds the position of a word's chain, whose price is told, and writes its part numbers to the places.
-pub fn place(letters: &[u8], price: u64, scratch: &mut [u64], places: &mut [u16]) -> Chosen
-    requires { ⌜ PlacingAsked (now letters) (now scratch) (now places) ⌝ }
-    ensures answer { λ r. ⌜ r ≡ placedOf (now (letters .entry)) price ⌝ }
-    ensures places { λ _. ⌜ now (places .exit)
-        ≡ filled 64 (map partNumber (chainOf (now (letters .entry)))) (now (places .entry)) ⌝ }
-    ensures scratch { λ _. ⌜ now (scratch .exit) ≡ filled scratchSize [] (now (scratch .entry)) ⌝ }
+// The position, where the count table of n stands in the scratch. How many words begin with a rise of a is in the next column.
+fn rank_of(n: u64, letters: &[u8], scratch: &[u64]) -> u64
+    requires { ⌜ RankStart n (now letters) (now scratch) ⌝ }
+    ensures { λ r. ⌜ r ≡ countBefore (now (letters .entry)) (listOf n) ⌝ }
 {
-    match ranking::read_word(letters, scratch, places) {
-        Found::Chain { n: _, position, k } => Chosen::Chain { position, k, price },
-        Found::Refused(number) => Chosen::Refused(number),
+    let mut a: usize = 0;
+    let mut b: usize = 0;
+    let mut before: u64 = 0;
+    while a + b + 1 < letters.len() {
+        if letters[a + b] <= 1 {
+            a += 1;
+        } else {
+            before += scratch[128 * b + 2 * a + 3];
+            b += 1;
+        }
     }
+    before
+}
+
+// The position in the list of n of a word that stands there. The first `lent::SCRATCH` numbers of the scratch are left zero.
+pub fn position_of(n: u64, letters: &[u8], scratch: &mut [u64]) -> u64
+    requires { ⌜ Listed n (now letters) (now scratch) ⌝ }
+    ensures { λ r. ⌜ r ≡ countBefore (now (letters .entry)) (listOf n) ⌝ }
+    ensures { λ _. ⌜ now (scratch .exit) ≡ filled scratchSize [] (now (scratch .entry)) ⌝ }
+{
+    counting::fill_counts(n, scratch);
+    let position = rank_of(n, letters, scratch);
+    lent::clear_u64(&mut scratch[0..lent::SCRATCH]);
+    position
 }

@@ -1,4 +1,4 @@
-// The walk along a table of keys that writes the best word. It goes along the letters of the word, from the point (0, 0) up; the
+// The walk along a table of keys that writes the best word and the numbers of its parts. It goes along the letters of the word, from the point (0, 0) up; the
 // next letter's index is a + b.
 use super::keys;
 ghost use mathlib.Core.Path.{_≡_};
@@ -69,17 +69,22 @@ fn walk_step(
     }
 }
 
-// Writes the best word of n to the start of `letters` and tells its length.
+// Writes the best word of n to the start of `letters` and tells its length; puts the numbers of its k parts in the first k places. The
+// walk meets the smallest part first, which has the last of these places. The number of each point is stored where the next part's
+// belongs: if the point is no part, a later one overwrites it.
 pub fn write_best(
     n: u64,
     scratch: &[u64],
     costs: &[u64; 5],
     doublings: usize,
     triplings: usize,
+    k: usize,
     letters: &mut [u8],
+    places: &mut [u16],
 ) -> usize
-    requires { ⌜ KeyStart (now costs) doublings triplings n (now scratch) (now letters) ⌝ }
-    ensures { λ r. ⌜ BestWritten (now (costs .entry)) doublings triplings n r (now (letters .exit)) ⌝ }
+    requires { ⌜ KeyStart (now costs) doublings triplings n k (now scratch) (now letters) (now places) ⌝ }
+    ensures { λ r. ⌜ BestWritten (now (costs .entry)) doublings triplings n k r (now (letters .exit))
+        (now (places .entry)) (now (places .exit)) ⌝ }
 {
     let mut w = Walk {
         a: 0,
@@ -88,12 +93,17 @@ pub fn write_best(
         rest: n,
         letter: 0,
     };
+    let mut left = k;
     while w.rest > 1 {
-        let at = w.a + w.b;
+        let a = w.a;
+        let b = w.b;
         w = walk_step(n, scratch, costs, doublings, triplings, w);
-        letters[at] = w.letter;
+        letters[a + b] = w.letter;
+        places[left - 1] = parts::part_number(a as u64, b as u64);
+        left -= (w.letter % 2) as usize;
     }
     let last = w.a + w.b;
     letters[last] = 3;
+    places[0] = parts::part_number(w.a as u64, w.b as u64);
     last + 1
 }

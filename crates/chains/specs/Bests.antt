@@ -158,15 +158,15 @@ unfolding weight someLeft
 full-words f m h [] k = absurd (omega (arith, member-words f m [] .0 k .1))
 full-words f m h (l ∷ w) k = tt
 
--- Where b rises, at a rest of 2 or more, the third is not 0.
-pub third-left : (f : Bool) (m : ℕ) → 2 ≤ m → T (rises f (m % 3)) → 0 < m / 3
+-- Where b rises, the remainder by three is 0 or 1, and at a rest of 2 or more the third is not 0.
+pub rises-low : (f : Bool) (r : ℕ) → T (rises f r) → r ≤ 1
 unfolding rises
-third-left f m h t = omega (arith, low (m % 3) t)
-  where
-    low : (r : ℕ) → T (rises f r) → r ≤ 1
-    low zero t = omega arith
-    low (suc zero) t = omega arith
-    low (suc (suc r)) t = absurd t
+rises-low f zero t = omega arith
+rises-low f (suc zero) t = omega arith
+rises-low f (suc (suc r)) t = absurd t
+
+pub third-left : (f : Bool) (m : ℕ) → 2 ≤ m → T (rises f (m % 3)) → 0 < m / 3
+third-left f m h t = omega (arith, rises-low f (m % 3) t)
 
 -- ---- the grid
 

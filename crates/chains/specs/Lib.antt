@@ -4,6 +4,7 @@
 -- Best (price, limits, the best chain). The rest is theory:
 --   Steps      the step law of the list, and induction from the half and the third
 --   Weight     the number that a word stands for
+--   Marks      what a letter does by arithmetic, and how many parts a word marks
 --   Readers    the two readers take exactly the good words
 --   Order      the dictionary order
 --   Members    what the list of n holds, and that it ascends
@@ -26,6 +27,7 @@ pub mod Listing
 pub mod Best
 pub mod Steps
 pub mod Weight
+pub mod Marks
 pub mod Readers
 pub mod Order
 pub mod Members

@@ -16,7 +16,7 @@ use Rattle.chains.specs.Bounds.{part-bounds}
 use Rattle.parts.specs.Table.{rows, joined, parts}
 use Rattle.parts.specs.Parts.{limit, times, partAt, partNumber, numberOf}
 use Rattle.parts.specs.declared.Number.the-variants.{At, None}
-use Rattle.parts.specs.Tests.{each, at-each, below, at-below, ascending, ascending-pair, smaller-at, in-32s, look}
+use Rattle.parts.specs.Tests.{each, at-each, below, at-below, ascending, ascending-pair, smaller-at, all-smaller, in-32s, look}
 use Rattle.parts.specs.Tests.{look-joined}
 
 -- ---- the tests
@@ -140,6 +140,12 @@ number-rank p h = number-of-entry (rank (p .a) (p .b)) (at-rank p h .0) p (at-ra
 -- Every part below 2^64 is in the table, at its number.
 pub parts-complete : (p : Part) → value p < limit → (partNumber p < 1344) × (getD parts (partNumber p) 0 ≡ value p)
 parts-complete p h = rw (number-rank p h) (at-rank p h)
+
+-- All 1344 entries are smaller than a part of 2^64 or more.
+pub number-over : (p : Part) → limit ≤ value p → partNumber p ≡ 1344
+unfolding partNumber
+number-over p h =
+    all-smaller (value p) parts (λ i l. omega (arith, part-below i (omega (arith, parts-count)))) ∙ parts-count
 
 -- The answer of `number_of`.
 pub number-none : (p : Part) → (value p < limit → ⊥) → numberOf p ≡ None

@@ -87,6 +87,12 @@ smaller-at x (y ∷ ys) t (suc i) h =
     let later = le-of-suc-le-suc h in
     rw (lt-ltb y (getD ys i 0) (ascending-above y ys tail i later), smaller-at y ys tail i later) (omega arith)
 
+-- All entries are smaller than what is above each of them.
+pub all-smaller : (v : ℕ) (ys : List ℕ) → ((i : ℕ) → i < length ys → getD ys i 0 < v) → smaller v ys ≡ length ys
+unfolding smaller one-if
+all-smaller v [] h = refl
+all-smaller v (y ∷ ys) h = rw (lt-ltb y v (h 0 (omega arith)), all-smaller v ys (λ i l. h (suc i) (omega arith))) (omega arith)
+
 -- ---- a list that is cut into rows of 32: an entry is reached by the row and the place in it
 
 unfoldable pub in-32s : List (List ℕ) → Bool

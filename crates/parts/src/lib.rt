@@ -6,7 +6,7 @@ ghost use mathlib.Core.Path.{_≡_};
 ghost use mathlib.Core.Bool.{true};
 ghost use lib.ListN.{getD};
 ghost use Rattle.chains.specs.Chains.{Part, value, ProperMultiple};
-ghost use Rattle.parts.specs.Parts.{numberOf, sumAt, sumOf};
+ghost use Rattle.parts.specs.Parts.{partNumber, numberOf, sumAt, sumOf};
 
 // A part's exponents.
 pub struct Exponents {
@@ -48,6 +48,16 @@ pub fn exponents_of(v: u64) -> Exponents
     Exponents {
         a: a as u64,
         b: (length as u64) * 323 / 512,
+    }
+}
+
+// How many parts of the table are smaller than 2^a × 3^b: the part's number, and 1344, which is no number, where it is 2^64 or more.
+pub fn part_number(a: u64, b: u64) -> u16
+    ensures { λ r. ⌜ r ≡ partNumber (record { a = a; b = b }) ⌝ }
+{
+    match number_of(a, b) {
+        Number::At(number) => number,
+        Number::None => 1344,
     }
 }
 

@@ -7,6 +7,7 @@
 --   WordLaws     chains through records and words
 -- What the private functions cite:
 --   Walks        the walk that writes a word
+--   Storing      the walk along a word that stores the numbers of its parts
 pub mod Answers
 pub mod Records
 pub mod Conversions
@@ -16,3 +17,4 @@ pub mod RecordLaws
 pub mod Refusals
 pub mod WordLaws
 pub mod Walks
+pub mod Storing

@@ -2,13 +2,12 @@
 //
 // A letter of 0 to 3 tells what it does by arithmetic alone: it marks a part if it is odd, and b rises if it is 2 or more. So no
 // step of the loops branches on a letter.
-use parts::Number;
 ghost use mathlib.Core.Path.{_≡_};
 ghost use mathlib.Core.Bool.{true};
 ghost use mathlib.Core.List.{_++_, map};
 ghost use Prim.Native.Nat.{_^_, _<_, _≤_};
 ghost use lib.ListN.{length, drop};
-ghost use Rattle.chains.specs.Chains.{value, total};
+ghost use Rattle.chains.specs.Chains.{total};
 ghost use Rattle.chains.specs.Words.{reads, chainOf};
 ghost use Rattle.lent.specs.Lent.{filled};
 ghost use Rattle.parts.specs.Parts.{partNumber};
@@ -27,16 +26,6 @@ pub fn count_parts(letters: &[u8]) -> usize
     k
 }
 
-// The number of a part below 2^64; for a larger one any number will do.
-fn number_at(a: u64, b: u64) -> u16
-    ensures { λ r. ⌜ (value (record { a = a; b = b }) < 2 ^ 64 → r ≡ partNumber (record { a = a; b = b })) ⌝ }
-{
-    match parts::number_of(a, b) {
-        Number::At(at) => at,
-        Number::None => 0,
-    }
-}
-
 // The numbers of the word's k parts in the first k places, the largest part first: the walk meets the smallest one first, which
 // has the last place. The number of each point is stored where the next part's belongs: if the point is no part, a later store
 // overwrites it, since the last point is a part.
@@ -51,7 +40,7 @@ fn store_numbers(letters: &[u8], places: &mut [u16], k: usize)
     let mut i = 0;
     while i < letters.len() {
         let letter = letters[i];
-        places[left - 1] = number_at(a, b);
+        places[left - 1] = parts::part_number(a, b);
         left -= (letter % 2) as usize;
         let up = (letter / 2) as u64;
         a += 1 - up;

@@ -1,5 +1,5 @@
 -- `choose` finds the word of the best chain within the limits: the first number of the table tells its parts and its price, and the
--- walk along the table writes it.
+-- walk along the table writes it and the numbers of its parts.
 use mathlib.Core.Path.{refl}
 use native.Mathlib.Omega.{arith}
 use borrow.Author.Needs.{needs}
@@ -9,10 +9,11 @@ use Rattle.best.proofs.choosing.choose.Statement.{statement}
 use Rattle.best.proofs.choosing.choose.Tie as tie
 
 begun : (c : tie.After-letter-costs) →
-    let a = c .before .before .before .before .before .before .args in
+    let a = c .before .before .before .before .before .before .before .args in
     Begun (c .letter-costs .result) (a .n) (limitsOf (a .limits)) (pricesOf (a .prices)) (a .scratch .now) (a .letters .now)
+    (a .places .now)
 begun c =
-    let s = c .before .before .before .before .before .before in
+    let s = c .before .before .before .before .before .before .before in
     record {
       costs-are = c .letter-costs .ensures .0;
       fits = s .fits .n .fits;
@@ -22,11 +23,44 @@ begun c =
       asked = s .pre;
     }
 
+returns : tie.Need-returns
+returns c =
+    let z = c .before .before in
+    let s = z .before .before .before .before .before .before in
+    (zero-chosen _ _ _ _ _ (z .before .before .if1 .taken) (s .pre .lent .room) (z .clear-u16 .ensures), record { same = refl; later = refl })
+
+returns-2 : tie.Need-returns-2
+returns-2 c =
+    let f = c .before .before .before .before .before in
+    let b = begun (f .before .before .before) in
+    ((filled-none b (f .fill-rows .ensures) (c .if2 .taken), refl), filled-used b (f .fill-rows .ensures))
+
+write-best-requires : tie.Need-write-best-requires
+write-best-requires c κs =
+    let z = c .before .before .before .before .before .before in
+    let f = z .before .before .before .before .before .before .before in
+    write-asked (begun (f .before .before .before)) (f .fill-rows .ensures) (z .before .before .if2 .left) (z .clear-u162 .ensures)
+
+returns-3 : tie.Need-returns-3
+returns-3 c =
+    let w = c .before .before .before .before in
+    let z = w .before .before .before .before .before .before .before in
+    let f = z .before .before .before .before .before .before .before in
+    let b = begun (f .before .before .before) in (
+      filled-word b (f .fill-rows .ensures) (z .before .before .if2 .left) (z .clear-u162 .ensures) (w .write-best .ensures),
+      filled-used b (f .fill-rows .ensures),
+    )
+
 pub choose-spec : {M : Type 1} → statement M
 choose-spec =
     tie.close
     (tie.spec
-    (λ c. (zero-chosen _ _ _ _ (c .if1 .taken), record { same = refl; later = refl }))
+    (λ c. search needs)
+    (λ c. search needs)
+    (λ c. omega (arith, c .before .before .before .before .pre .lent .room))
+    (λ c κs. search needs)
+    (λ c. search needs)
+    returns
     (λ c. search needs)
     (λ c. search needs)
     (λ c κs. search needs)
@@ -34,19 +68,13 @@ choose-spec =
     (λ c. search needs)
     (λ c. search needs)
     (λ c. search needs)
-    (λ c.
-    let f = c .before .before .before .before .before in
-    let b = begun (f .before .before .before) in
-    (filled-none b (f .fill-rows .ensures) (c .if2 .taken), filled-used b (f .fill-rows .ensures)))
-    (λ c κs.
-    let f = c .before .before .before .before .before .before .before .before in
-    write-asked (begun (f .before .before .before)) (f .fill-rows .ensures) (c .before .before .before .if2 .left))
+    returns-2
     (λ c. search needs)
     (λ c. search needs)
-    (λ c.
-    let w = c .before .before in
-    let f = w .before .before .before .before .before .before .before .before .before in
-    let b = begun (f .before .before .before) in (
-      filled-word b (f .fill-rows .ensures) (w .before .before .before .before .if2 .left) _ (w .write-best .ensures),
-      filled-used b (f .fill-rows .ensures),
-    )))
+    (λ c. omega (arith, c .before .before .before .before .before .before .before .before .before .before .before .before .before .before .before .pre .lent .room))
+    (λ c κs. search needs)
+    write-best-requires
+    (λ c. search needs)
+    (λ c. search needs)
+    (λ c. search needs)
+    returns-3)

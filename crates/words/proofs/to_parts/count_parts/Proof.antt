@@ -7,7 +7,7 @@ use lib.ListN.{length, drop, getD, drop-of-length-le}
 use lib.Seq.{drop-cons}
 use borrow.Author.Needs.{needs}
 use Rattle.chains.specs.Words.{Word}
-use Rattle.words.proofs.Marks.{marks, marks-chain}
+use Rattle.chains.specs.Marks.{marks, marks-chain}
 use Rattle.words.proofs.to_parts.count_parts.Statement.{statement}
 use Rattle.words.proofs.to_parts.count_parts.Tie as tie
 

@@ -6,8 +6,8 @@ use lib.ListN.{length, getD}
 use borrow.Author.Needs.{needs}
 use Rattle.ranking.specs.Walks.{Between, RankWalked}
 use Rattle.ranking.specs.RankLaws.{rising-cell, rank-start, rank-between, rank-a, rank-b, rank-end}
-use Rattle.best.proofs.ranks.rank_of.Statement.{statement}
-use Rattle.best.proofs.ranks.rank_of.Tie as tie
+use Rattle.best.proofs.placing.rank_of.Statement.{statement}
+use Rattle.best.proofs.placing.rank_of.Tie as tie
 
 abbrev Inv-loop : tie.InvT-loop
 Inv-loop n letters scratch a₀ b₀ before₀ a b before = RankWalked n letters a b before × (a + b ≤ length letters)

@@ -4,8 +4,8 @@ use borrow.Author.Needs.{needs}
 use Rattle.lent.specs.LentLaws.{served-zeroed}
 use Rattle.counting.specs.TableLaws.{table-cleared}
 use Rattle.ranking.specs.RankLaws.{filled-table}
-use Rattle.best.proofs.ranks.position_of.Statement.{statement}
-use Rattle.best.proofs.ranks.position_of.Tie as tie
+use Rattle.best.proofs.placing.position_of.Statement.{statement}
+use Rattle.best.proofs.placing.position_of.Tie as tie
 
 rank-of-requires : tie.Need-rank-of-requires
 rank-of-requires c κs =
