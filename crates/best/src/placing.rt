@@ -6,7 +6,8 @@ ghost use Rattle.chains.specs.Listing.{listOf, countBefore};
 ghost use Rattle.lent.specs.Lent.{filled, scratchSize};
 ghost use Rattle.ranking.specs.Walks.{Listed, RankStart};
 
-// The position, where the count table of n stands in the scratch. How many words begin with a rise of a is in the next column.
+// The position, where the count table of n stands in the scratch. How many words begin with a rise of a is in the next column. b rises
+// at a letter 2 or 3, so no step branches on a letter.
 fn rank_of(n: u64, letters: &[u8], scratch: &[u64]) -> u64
     requires { ⌜ RankStart n (now letters) (now scratch) ⌝ }
     ensures { λ r. ⌜ r ≡ countBefore (now (letters .entry)) (listOf n) ⌝ }
@@ -15,12 +16,10 @@ fn rank_of(n: u64, letters: &[u8], scratch: &[u64]) -> u64
     let mut b: usize = 0;
     let mut before: u64 = 0;
     while a + b + 1 < letters.len() {
-        if letters[a + b] <= 1 {
-            a += 1;
-        } else {
-            before += scratch[128 * b + 2 * a + 3];
-            b += 1;
-        }
+        let up = (letters[a + b] / 2) as usize;
+        before += (up as u64) * scratch[128 * b + 2 * a + 3];
+        a += 1 - up;
+        b += up;
     }
     before
 }

@@ -5,7 +5,8 @@
 use mathlib.Core.Path.{_≡_, refl, ap, _∙_}
 use mathlib.Core.Bool.{Bool, true, false}
 use mathlib.Core.List.{List, [], _∷_, List·Memᴰ, List·Memᴰ·not-nil, List·Memᴰ·eq-of-singleton}
-use Prim.Native.Nat.{ℕ, zero, suc, _+_, _*_, _^_, _/_, _≤_, _<_}
+use Prim.Native.Nat.{ℕ, zero, suc, _+_, _-_, _*_, _^_, _/_, _≤_, _<_}
+use native.Mathlib.Nat.{add-zero, zero-mul, one-mul}
 use native.Mathlib.Omega.{arith}
 use lib.Dec.{T}
 use lib.Ieee.Fits.{and-r}
@@ -17,6 +18,7 @@ use Rattle.chains.specs.Listing.{wordsIn, atRest, byThird, wordsAt, listOf, cou
 use Rattle.chains.specs.Weight.{weight}
 use Rattle.chains.specs.Counts.{ways-at-0-free, ways-at-0-after-a, ways-at-most, count-fits}
 use Rattle.chains.specs.Members.{member-words}
+use Rattle.chains.specs.Marks.{taken}
 use Rattle.chains.specs.Positions.{words-at-position, word-at-position, position-rise-a, position-rise-b}
 use Rattle.grid.specs.Grid.{restAt}
 use Rattle.grid.specs.Rests.{rest-origin, rest-right, rest-up}
@@ -106,7 +108,7 @@ module _ (n : ℕ) (letters : Word) (a b before : ℕ) (w : RankWalked n letters
     next : drop (a + b) letters ≡ getD letters (a + b) 0 ∷ drop (suc (a + b)) letters
     next = drop-cons letters (a + b) 0 (omega arith)
 
-    pub rank-a : getD letters (a + b) 0 ≤ 1 → RankWalked n letters (a + 1) b before
+    rank-a : getD letters (a + b) 0 ≤ 1 → RankWalked n letters (a + 1) b before
     rank-a l =
         let p = position-rise-a (w .reader) (restAt n a b) _ _ (omega (arith, more-left)) (rw next at (w .member)) l in
         let d : a + 1 + b ≡ suc (a + b) = omega arith in
@@ -117,7 +119,7 @@ module _ (n : ℕ) (letters : Word) (a b before : ℕ) (w : RankWalked n letters
           fits = w .fits;
         }
 
-    pub rank-b : 2 ≤ getD letters (a + b) 0 → RankWalked n letters a (b + 1) (before + ways false (restAt n a b / 2))
+    rank-b : 2 ≤ getD letters (a + b) 0 → RankWalked n letters a (b + 1) (before + ways false (restAt n a b / 2))
     unfolding ways
     rank-b l =
         let p = position-rise-b (w .reader) (restAt n a b) _ _ (omega (arith, more-left)) (rw next at (w .member)) l in
@@ -128,6 +130,19 @@ module _ (n : ℕ) (letters : Word) (a b before : ℕ) (w : RankWalked n letters
           counted = rw (d, rest-up) (omega (arith, p .1, rw next at (w .counted)));
           fits = w .fits;
         }
+
+    -- The letter is one of 0 to 3.
+    pub rank-low : getD letters (a + b) 0 ≤ 3
+    rank-low =
+        let t = member-words (w .reader) (restAt n a b) (drop (a + b) letters) .0 (w .member) .0 in
+        taken (w .reader) (getD letters (a + b) 0) (drop (suc (a + b)) letters) (rw next at t) .0
+
+    -- One letter more: b rises where it is 2 or 3, and then the words with a rise of a stand before.
+    pub rank-next : (u r : ℕ) → u ≡ getD letters (a + b) 0 / 2 → r ≡ ways false (restAt n a b / 2)
+        → RankWalked n letters (a + (1 - u)) (b + u) (before + u * r)
+    rank-next zero r e f = rw (zero-mul, add-zero before, add-zero b) (rank-a (omega arith))
+    rank-next (suc zero) r e f = rw (add-zero, one-mul, f) (rank-b (omega arith))
+    rank-next (suc (suc u)) r e f = absurd (omega (arith, rank-low))
 
   -- One letter at most is left.
   pub rank-end : length letters ≤ a + b + 1 → before ≡ countBefore letters (listOf n)

@@ -17,7 +17,7 @@ fn rising_a(n: u64, a: usize, b: usize, scratch: &[u64]) -> u64
     scratch[128 * b + 2 * a + 3]
 }
 
-// The position in the list of n of a word that stands there.
+// The position in the list of n of a word that stands there. b rises at a letter 2 or 3, so no step branches on a letter.
 pub fn rank_of(n: u64, letters: &[u8], scratch: &[u64]) -> u64
     requires { ⌜ RankStart n (now letters) (now scratch) ⌝ }
     ensures { λ r. ⌜ r ≡ countBefore (now (letters .entry)) (listOf n) ⌝ }
@@ -26,12 +26,10 @@ pub fn rank_of(n: u64, letters: &[u8], scratch: &[u64]) -> u64
     let mut b: usize = 0;
     let mut before: u64 = 0;
     while a + b + 1 < letters.len() {
-        if letters[a + b] <= 1 {
-            a += 1;
-        } else {
-            before += rising_a(n, a, b, scratch);
-            b += 1;
-        }
+        let up = (letters[a + b] / 2) as usize;
+        before += (up as u64) * rising_a(n, a, b, scratch);
+        a += 1 - up;
+        b += up;
     }
     before
 }

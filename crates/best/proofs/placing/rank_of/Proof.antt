@@ -1,11 +1,12 @@
 -- `rank_of` meets its contract. The invariant: what is counted so far and what is still before the letters left add up to the
 -- position. The measure is what is left of the letters.
-use Prim.Native.Nat.{_+_, _-_, _*_, _≤_}
+use mathlib.Core.Path.{refl}
+use Prim.Native.Nat.{_+_, _-_, _*_, _/_, _≤_}
 use native.Mathlib.Omega.{arith}
 use lib.ListN.{length, getD}
 use borrow.Author.Needs.{needs}
 use Rattle.ranking.specs.Walks.{Between, RankWalked}
-use Rattle.ranking.specs.RankLaws.{rising-cell, rank-start, rank-between, rank-a, rank-b, rank-end}
+use Rattle.ranking.specs.RankLaws.{rising-cell, rank-start, rank-between, rank-low, rank-next, rank-end}
 use Rattle.best.proofs.placing.rank_of.Statement.{statement}
 use Rattle.best.proofs.placing.rank_of.Tie as tie
 
@@ -15,31 +16,25 @@ Inv-loop n letters scratch a₀ b₀ before₀ a b before = RankWalked n letters
 abbrev μ-loop : tie.MeasureT-loop
 μ-loop n letters scratch a₀ b₀ before₀ a b before = length letters - (a + b)
 
-loop-again : tie.Need-loop-again Inv-loop μ-loop
-loop-again c =
-    let t = c .before .before in
-    (rank-a _ _ _ _ _ (t .before .loop .inv .0) (t .loop-test .taken) (c .if1 .taken), omega arith)
-
--- Where b rises, the cell of the next column is there.
-here : (c : tie.Else1 Inv-loop μ-loop) →
-    let l = c .before .before .before in
-    Between (l .before .args .n) (l .loop .a) (l .loop .b)
+-- A letter after the next is left, so the cell of the next column is there. The letter is one of 0 to 3.
+here : (c : tie.In-loop Inv-loop μ-loop) →
+    let l = c .before in
+    let a = l .before .args in
+    Between (a .n) (l .loop .a) (l .loop .b) × (getD (a .letters .now) (l .loop .a + l .loop .b) 0 ≤ 3)
 here c =
-    let t = c .before .before in
-    let l = t .before in
-    rank-between _ _ _ _ _ (l .loop .inv .0) (t .loop-test .taken) (l .before .fits .n .fits)
+    let i = c .before .loop .inv .0 in
+    (rank-between _ _ _ _ _ i (c .loop-test .taken) (c .before .before .fits .n .fits), rank-low _ _ _ _ _ i (c .loop-test .taken))
 
--- And what is counted goes up by it.
-risen : (c : tie.Else1 Inv-loop μ-loop) →
-    let l = c .before .before .before in
-    let s = l .before in
-    RankWalked (s .args .n) (s .args .letters .now) (l .loop .a) (l .loop .b + 1)
-    (l .loop .before + getD (s .args .scratch .now) (128 * l .loop .b + 2 * l .loop .a + 3) 0)
-risen c =
-    let t = c .before .before in
-    let l = t .before in
-    rw (rising-cell _ _ _ _ (l .before .pre .counts) (here c))
-    (rank-b _ _ _ _ _ (l .loop .inv .0) (t .loop-test .taken) (c .if1 .left))
+-- What is counted once the letter is passed.
+next : (c : tie.In-loop Inv-loop μ-loop) →
+    let l = c .before in
+    let a = l .before .args in
+    let u = getD (a .letters .now) (l .loop .a + l .loop .b) 0 / 2 in
+    RankWalked (a .n) (a .letters .now) (l .loop .a + (1 - u)) (l .loop .b + u)
+    (l .loop .before + u * getD (a .scratch .now) (128 * l .loop .b + 2 * l .loop .a + 3) 0)
+next c =
+    rank-next _ _ _ _ _ (c .before .loop .inv .0) (c .loop-test .taken) _ _ refl
+    (rising-cell _ _ _ _ (c .before .before .pre .counts) (here c .0))
 
 pub rank-of-spec : {M : Type 1} → statement M
 rank-of-spec =
@@ -52,17 +47,18 @@ rank-of-spec =
     (λ c. search needs)
     (λ c. search needs)
     (λ c. search needs)
-    (λ c. search needs)
-    (λ c. search needs)
-    loop-again
-    (λ c. omega (arith, here c))
-    (λ c. omega (arith, here c))
-    (λ c. omega (arith, here c))
-    (λ c. omega (arith, here c))
-    (λ c. omega (arith, here c))
-    (λ c. omega (arith, here (c .before), c .before .before .before .before .before .pre .counts .size))
-    (λ c. omega (arith, risen (c .before) .counted, risen (c .before) .fits))
-    (λ c. search needs)
-    (λ c. search needs)
-    (λ c. (risen (c .before), omega arith))
+    (λ c. omega (arith, here (c .before) .1))
+    (λ c. omega (arith, here (c .before) .0))
+    (λ c. omega (arith, here (c .before) .0))
+    (λ c. omega (arith, here (c .before) .0))
+    (λ c. omega (arith, here (c .before) .0))
+    (λ c. omega (arith, here (c .before) .0))
+    (λ c. omega (arith, here (c .before .before) .0, c .before .before .before .before .pre .counts .size))
+    (λ c. omega (arith, next (c .before .before) .counted, next (c .before .before) .fits))
+    (λ c. omega (arith, next (c .before .before) .counted, next (c .before .before) .fits))
+    (λ c. omega (arith, here (c .before .before) .1))
+    (λ c. omega (arith, here (c .before .before) .1))
+    (λ c. omega (arith, here (c .before .before) .1))
+    (λ c. omega (arith, here (c .before .before) .1))
+    (λ c. (next (c .before .before), omega (arith, here (c .before .before) .1)))
     (λ c. rank-end _ _ _ _ _ (c .before .loop .inv .0) (c .loop-test .left)))
