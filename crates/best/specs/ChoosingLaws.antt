@@ -12,7 +12,7 @@ use lib.Dec.{T}
 use lib.ListN.{length, getD, take, length-map}
 use borrow.Author.Tests.{le-leb, lt-leb}
 use borrow.Rule.Slice.PartMut.{midOf, putMid}
-use Rattle.lent.specs.Lent.{zeros, filled, Enough}
+use Rattle.lent.specs.Lent.{zeros, filled}
 use Rattle.lent.specs.LentLaws.{length-filled, cleared, over-zeros}
 use Rattle.parts.specs.Parts.{partNumber}
 use Rattle.chains.specs.Chains.{Part, ChainOf, total}

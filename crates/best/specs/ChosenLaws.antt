@@ -10,8 +10,7 @@ use Prim.Native.Nat.{ℕ, _≤_}
 use native.Mathlib.Omega.{arith}
 use borrow.Rule.Slice.PartMut.{midOf, putMid}
 use lib.ListN.{length, take}
-use Rattle.chains.specs.Chains.{total}
-use Rattle.chains.specs.Words.{chainOf, wordOf}
+use Rattle.chains.specs.Words.{chainOf}
 use Rattle.chains.specs.Listing.{listOf, countBefore, position}
 use Rattle.chains.specs.Weight.{total-chainOf}
 use Rattle.chains.specs.Members.{member-words}

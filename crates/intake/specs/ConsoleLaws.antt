@@ -4,14 +4,14 @@
 -- lent is not refused; the first n bytes of `out` are replies.
 use mathlib.Core.Path.{_≡_, sym, ap, _∙_}
 use mathlib.Core.Bool.{Bool, true, false, true≢false}
-use mathlib.Core.List.{List, [], _++_, append-assoc, append-nil}
+use mathlib.Core.List.{List, [], _++_, append-nil}
 use Prim.Native.Nat.{ℕ, _+_, _-_, _≤_}
 use native.Mathlib.Nat.{sub-zero}
 use native.Mathlib.Omega.{arith}
-use lib.ListN.{length, take, drop, replicate, length-replicate, drop-of-length-le, length-take, length-drop, length-append}
-use lib.Seq.{take-all, take-add, drop-at, length-take-le}
+use lib.ListN.{length, take, drop, replicate, length-replicate, drop-of-length-le, length-take, length-drop}
+use lib.Seq.{take-all, take-add, length-take-le}
 use Rattle.lent.specs.Lent.{zeros, filled}
-use Rattle.lent.specs.LentLaws.{length-zeros}
+use Rattle.lent.specs.LentLaws.{filled-again}
 use Rattle.lines.specs.Stream.{finished, unfinished, lastLine, repliesTo}
 use Rattle.lines.specs.StreamLaws.{unfinished-append, kept-unfinished}
 use Rattle.frames.specs.Replies.{replyOf}
@@ -43,17 +43,6 @@ holds-itself kept k h l a =
     record { first = sym all; count = rw all (sym n); most = h; alone = a }
 
 -- ---- one call
-
--- Filled once more with the same, it is the same.
-filled-again : (size : ℕ) (xs entry : List ℕ) → length xs ≤ size → filled size xs (filled size xs entry) ≡ filled size xs entry
-unfolding filled
-filled-again size xs entry h =
-    let z = zeros (size - length xs) in
-    let n : length (xs ++ z) ≡ size = rw (length-append xs z, length-zeros (size - length xs)) (omega arith) in
-    let later : drop size (xs ++ (z ++ drop size entry)) ≡ drop size entry =
-    ap (drop size) (sym (append-assoc xs z (drop size entry))) ∙ drop-at (xs ++ z) (drop size entry) size n
-    in
-    ap (λ (l : List ℕ). xs ++ (z ++ l)) later
 
 pub call-holds : (line block kept keptExit out outExit : List ℕ) (used left n : ℕ)
     → Served line block kept keptExit out outExit used left n → Holds (unfinished line (take used block)) keptExit left

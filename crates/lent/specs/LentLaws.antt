@@ -2,8 +2,8 @@
 --
 -- In this order: the length is kept; a part of that size that was zeroed; what is given, put over the zeros; whether too little is
 -- lent, and the scratch at exit, in each case.
-use mathlib.Core.Path.{_≡_, ap}
-use mathlib.Core.Bool.{Bool, true, false, or-true}
+use mathlib.Core.Path.{_≡_, refl, sym, ap, _∙_}
+use mathlib.Core.Bool.{Bool, true, false, _||_, or-true, true≢false}
 use mathlib.Core.List.{List, [], _++_, append-assoc}
 use Prim.Native.Nat.{ℕ, _+_, _-_, _≤_, _<_}
 use native.Mathlib.Omega.{arith}
@@ -49,6 +49,17 @@ pub filled-first : (size : ℕ) (xs entry : List ℕ) → take (length xs) (fill
 unfolding filled
 filled-first size xs entry = take-append-seam xs _
 
+-- Filled once more with the same, it is the same.
+pub filled-again : (size : ℕ) (xs entry : List ℕ) → length xs ≤ size → filled size xs (filled size xs entry) ≡ filled size xs entry
+unfolding filled
+filled-again size xs entry h =
+    let z = zeros (size - length xs) in
+    let n : length (xs ++ z) ≡ size = rw (length-append xs z, length-zeros (size - length xs)) (omega arith) in
+    let later : drop size (xs ++ (z ++ drop size entry)) ≡ drop size entry =
+    ap (drop size) (sym (append-assoc xs z (drop size entry))) ∙ drop-at (xs ++ z) (drop size entry) size n
+    in
+    ap (λ (l : List ℕ). xs ++ (z ++ l)) later
+
 -- ---- whether too little is lent
 
 pub scratch-little : (s : List ℕ) → length s < scratchSize → littleScratch s ≡ true
@@ -71,6 +82,11 @@ module _ (size : ℕ) (s p : List ℕ) where
   pub enough : Enough size s p → tooLittle size s p ≡ false
   unfolding tooLittle
   enough h = rw (scratch-enough s (h .numbers), le-ltb (length p) size (h .room))
+
+-- Where one of two tests is asked for, and neither passed.
+pub neither : (a b : Bool) → (a || b) ≡ false → (a ≡ false) × (b ≡ false)
+neither true b e = absurd (true≢false e)
+neither false b e = (refl, e)
 
 -- ---- the scratch at exit
 

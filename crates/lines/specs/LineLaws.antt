@@ -2,7 +2,7 @@
 -- In order: one field; several fields; kinds and their bytes; lengths; which lines are refused, and which are fit; the answer for a
 -- shape; a line's first 515 characters; reading the items of a line.
 use mathlib.Core.Path.{_≡_, refl, sym, ap, _∙_}
-use mathlib.Core.Bool.{Bool, true, false, _&&_, _||_, true≢false, or-true, and-eq-true-iff}
+use mathlib.Core.Bool.{Bool, true, false, _&&_, _||_, or-true, and-eq-true-iff}
 use mathlib.Core.List.{List, [], _∷_, _++_}
 use mathlib.Core.Option.{Option, none, some}
 use Prim.Native.Nat.{ℕ, zero, suc, _+_, _*_, _-_, _%_, _^_, _≤_, _<_}
@@ -13,6 +13,7 @@ use borrow.Author.Tests.{eqb-true, eqb-false, eq-eqb, ne-eqb, ltb-true, ltb-fals
 use lib.Dec.{eqb, ltb, leb}
 use lib.ListN.{length, take, drop, getD, length-take, length-drop, drop-of-length-le}
 use lib.Seq.{take-all, take-nil, drop-cons}
+use Rattle.lent.specs.LentLaws.{neither}
 use Rattle.digits.specs.Digits.{valueOr0, allDigits, numberOf, readFrom}
 use Rattle.digits.specs.DigitLaws.{number-below, number-fits}
 use Rattle.lines.specs.Kinds.{Kind, count-line, best-line, at-line, record-line, word-line, next-line, Row, rowOf, kinds}
@@ -168,10 +169,6 @@ bad-long n h = rw (lt-ltb 514 n h, or-true, or-true)
 pub proper-length : (n : ℕ) → Proper n → badLength n ≡ false
 unfolding badLength
 proper-length n p = rw (ne-eqb n 0 (λ e. omega arith), ne-eqb (n % 2) 1 (λ e. omega arith), le-ltb 514 n (p .most))
-
-neither : (a b : Bool) → a || b ≡ false → (a ≡ false) × (b ≡ false)
-neither true b e = absurd (true≢false e)
-neither false b e = (refl, e)
 
 pub length-proper : (n : ℕ) → badLength n ≡ false → Proper n
 unfolding badLength

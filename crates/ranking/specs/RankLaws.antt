@@ -36,9 +36,9 @@ module _ (n : ℕ) (entry l : List ℕ) (e : l ≡ tableLeft n entry) (h : scrat
   pub filled-table : Tabled n l
   filled-table = record { size = table-room n entry l e h; table = table-rows n entry l e h .rows }
 
-  pub filled-again : filled scratchSize [] l ≡ filled scratchSize [] entry
+  pub table-zeroed : filled scratchSize [] l ≡ filled scratchSize [] entry
   unfolding filled
-  filled-again = rw (table-rows n entry l e h .later)
+  table-zeroed = rw (table-rows n entry l e h .later)
 
 -- How many words begin with a rise of a there is read in the next column.
 pub rising-cell :

@@ -1,8 +1,8 @@
 -- The laws of one call; the definitions are in Answers.
 --
 -- In this order: whether too little is lent; what is written; a call that is served; such a call moves on.
-use mathlib.Core.Path.{_≡_, refl, sym, ap, _∙_}
-use mathlib.Core.Bool.{Bool, true, false, _||_, or-true, true≢false}
+use mathlib.Core.Path.{_≡_, sym, ap, _∙_}
+use mathlib.Core.Bool.{Bool, true, false, _||_, or-true}
 use mathlib.Core.List.{List}
 use Prim.Native.Nat.{ℕ, zero, suc, _≤_, _<_}
 use native.Mathlib.Omega.{arith}
@@ -10,8 +10,8 @@ use borrow.Author.Tests.{ltb-false, lt-ltb, le-ltb}
 use lib.Dec.{ltb}
 use lib.ListN.{length, take, length-append, length-take}
 use lib.Seq.{take-at}
-use Rattle.lent.specs.Lent.{filled, scratchSize, littleScratch, tooLittle, Enough}
-use Rattle.lent.specs.LentLaws.{filled-first, enough}
+use Rattle.lent.specs.Lent.{filled, scratchSize, littleScratch, tooLittle}
+use Rattle.lent.specs.LentLaws.{filled-first, enough, neither}
 use Rattle.lines.specs.Stream.{finished, unfinished, lastLine, repliesTo}
 use Rattle.frames.specs.Replies.{replyOf}
 use Rattle.stream.specs.Answers.{little, Lending, behind, repliesLeft, Goes, fedOf, keptLeft, Moves, endedOf}
@@ -20,10 +20,6 @@ use Rattle.stream.specs.declared.Fed.the-variants as fed
 use Rattle.stream.specs.declared.Ended.the-variants as ended
 
 -- ---- whether too little is lent
-
-both-false : (a b : Bool) → (a || b) ≡ false → (a ≡ false) × (b ≡ false)
-both-false true b e = absurd (true≢false e)
-both-false false b e = (refl, e)
 
 module _ (kept : List ℕ) (k : ℕ) (scratch out : List ℕ) where
   pub little-memory : tooLittle 515 scratch out ≡ true → little kept k scratch out ≡ true
@@ -45,9 +41,9 @@ module _ (kept : List ℕ) (k : ℕ) (scratch out : List ℕ) where
   pub lent-enough : little kept k scratch out ≡ false → Lending kept k scratch out
   unfolding little tooLittle littleScratch
   lent-enough e =
-      let a = both-false (tooLittle 515 scratch out) (ltb (length kept) 515 || ltb 515 k) e in
-      let m = both-false (ltb (length scratch) scratchSize) (ltb (length out) 515) (a .0) in
-      let l = both-false (ltb (length kept) 515) (ltb 515 k) (a .1) in
+      let a = neither (tooLittle 515 scratch out) (ltb (length kept) 515 || ltb 515 k) e in
+      let m = neither (ltb (length scratch) scratchSize) (ltb (length out) 515) (a .0) in
+      let l = neither (ltb (length kept) 515) (ltb 515 k) (a .1) in
       record {
         kept-lent = ltb-false (length kept) 515 (l .0);
         line-kept = ltb-false 515 k (l .1);

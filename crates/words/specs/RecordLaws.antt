@@ -3,7 +3,7 @@
 -- part table; the sum of the table's entries is the sum of the parts; the theorem of record. The definitions are in Records.
 use mathlib.Core.Path.{_≡_, refl, sym, ap, ap₂, _∙_}
 use mathlib.Core.Logic.{_↔_, Iff·and, Iff·trans}
-use mathlib.Core.Bool.{Bool, true, false, cond, _&&_, _||_, not, true≢false}
+use mathlib.Core.Bool.{Bool, true, false, cond, _&&_, _||_, not}
 use mathlib.Core.List.{List, [], _∷_}
 use Prim.Native.Nat.{ℕ, zero, suc, _+_, _*_, _/_, _%_, _≤_, _<_}
 use native.Mathlib.Nat.{div-add-mod', mul-mod-left, mul-le-mul-right, lt-of-not-le}
@@ -13,6 +13,7 @@ use lib.Ieee.Bits.{is-true}
 use lib.Ieee.Fits.{and-i, and-l, and-r, eq→eqb}
 use lib.ListN.{length}
 use borrow.Author.Tests.{ltb-false, leb-false, le-ltb, lt-leb}
+use Rattle.lent.specs.LentLaws.{neither}
 use Rattle.chains.specs.Chains.{Part, value, ProperMultiple, Chained, total}
 use Rattle.chains.specs.Divides.{value-pos}
 use Rattle.parts.specs.Table.{parts}
@@ -52,10 +53,6 @@ chained-test (p ∷ q ∷ c) =
     (Iff·and (test-multiple (value p) (value q) (value-pos q)) (chained-test (q ∷ c)))
 
 -- ---- the numbers
-
-pub neither : (a b : Bool) → (a || b) ≡ false → (a ≡ false) × (b ≡ false)
-neither true b e = absurd (true≢false e)
-neither false b e = (refl, e)
 
 -- A record that names nothing past the table, by its first number.
 pub known-cons : (i : ℕ) (l : List ℕ) → beyond (i ∷ l) ≡ false → (i < 1344) × (beyond l ≡ false)

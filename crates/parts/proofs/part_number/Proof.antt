@@ -7,7 +7,6 @@ use lib.Dec.{ltb}
 use borrow.Author.Needs.{needs}
 use borrow.Author.Tests.{ltb-false}
 use Rattle.chains.specs.Chains.{Part, value}
-use Rattle.parts.specs.declared.Number.{Number}
 use Rattle.parts.specs.declared.Number.the-variants.{At, None}
 use Rattle.parts.specs.Parts.{limit, partNumber, numberOf}
 use Rattle.parts.specs.Numbers.{number-over}

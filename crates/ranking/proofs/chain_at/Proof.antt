@@ -4,7 +4,7 @@ use borrow.Author.Needs.{needs}
 use Rattle.lent.specs.LentLaws.{little-scratch, little-places}
 use Rattle.counting.specs.TableLaws.{told-count, told-refused, table-refused}
 use Rattle.ranking.specs.Services.{atPosition}
-use Rattle.ranking.specs.RankLaws.{filled-table, filled-again}
+use Rattle.ranking.specs.RankLaws.{filled-table, table-zeroed}
 use Rattle.ranking.proofs.Answers.{little, served}
 use Rattle.ranking.proofs.chain_at.Statement.{statement}
 use Rattle.ranking.proofs.chain_at.Tie as tie
@@ -36,7 +36,7 @@ returns-3 c =
     let (answer, table) = f .fill-counts .ensures in
     let (room, number) = told-count _ _ answer (told .count .given .1) in
     let (given, (places, scratch)) = g .give-at .ensures in
-    served _ _ _ _ _ _ room (f .before .before .if1 .left) given places (scratch ∙ filled-again _ _ _ table room)
+    served _ _ _ _ _ _ room (f .before .before .if1 .left) given places (scratch ∙ table-zeroed _ _ _ table room)
 
 pub chain-at-spec : {M : Type 1} → statement M
 chain-at-spec =

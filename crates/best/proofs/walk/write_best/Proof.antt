@@ -2,11 +2,9 @@
 -- are stored, and at most 64 - (a + b) letters are left.
 use Rattle.best.specs.Walk.{KeyWriting}
 use Rattle.best.specs.WalkLaws.{walk-start, step-asked, walk-place, walk-more, one-part, walk-end}
-use lib.ListN.{length-set}
 use native.Mathlib.Omega.{arith}
 use Prim.Native.Nat.{_+_, _-_, _≤_, _<_}
-use mathlib.Core.Path.{_∙_}
-use lib.ListN.{length}
+use lib.ListN.{length, length-set}
 use borrow.Author.Needs.{needs}
 use Rattle.best.proofs.walk.write_best.Statement.{statement}
 use Rattle.best.proofs.walk.write_best.Tie as tie

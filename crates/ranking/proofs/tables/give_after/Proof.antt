@@ -3,7 +3,7 @@ use mathlib.Core.Path.{_∙_}
 use native.Mathlib.Omega.{arith}
 use borrow.Author.Needs.{needs}
 use Rattle.counting.specs.TableLaws.{told-count, told-refused}
-use Rattle.ranking.specs.RankLaws.{filled-table, filled-again, next-fits}
+use Rattle.ranking.specs.RankLaws.{filled-table, table-zeroed, next-fits}
 use Rattle.ranking.proofs.tables.give_after.Statement.{statement}
 use Rattle.ranking.proofs.tables.give_after.Tie as tie
 
@@ -42,7 +42,7 @@ returns-2 c =
     let f = k .before .before .before .before .before .before .before in
     let s = f .before .before .before .before .before in
     let (answer, (places, scratch)) = g .give-at .ensures in
-    rw (← k .rank-of .ensures) (answer, (places, scratch ∙ filled-again _ _ _ (f .fill-counts .ensures .1) (s .pre .0 .room)))
+    rw (← k .rank-of .ensures) (answer, (places, scratch ∙ table-zeroed _ _ _ (f .fill-counts .ensures .1) (s .pre .0 .room)))
 
 pub give-after-spec : {M : Type 1} → statement M
 give-after-spec =

@@ -1,7 +1,7 @@
 -- `position_of` meets its contract: the table is filled where there is room, and zeroing it leaves what zeroing the scratch would.
 use mathlib.Core.Path.{_∙_}
 use borrow.Author.Needs.{needs}
-use Rattle.ranking.specs.RankLaws.{filled-table, filled-again}
+use Rattle.ranking.specs.RankLaws.{filled-table, table-zeroed}
 use Rattle.ranking.proofs.tables.position_of.Statement.{statement}
 use Rattle.ranking.proofs.tables.position_of.Tie as tie
 
@@ -16,7 +16,7 @@ returns c =
     let r = c .before .before .before .before in
     let f = r .before .before .before .before in
     let s = f .before .before .before .before in
-    (r .rank-of .ensures, c .before .before .clear .ensures ∙ filled-again _ _ _ (f .fill-counts .ensures .1) (s .pre .room))
+    (r .rank-of .ensures, c .before .before .clear .ensures ∙ table-zeroed _ _ _ (f .fill-counts .ensures .1) (s .pre .room))
 
 pub position-of-spec : {M : Type 1} → statement M
 position-of-spec =

@@ -12,8 +12,9 @@ use Rattle.chains.specs.Chains.{total}
 use Rattle.parts.specs.Table.{parts}
 use Rattle.parts.specs.Parts.{limit, sumAt, sumOf}
 use Rattle.parts.specs.declared.Sum.the-variants.{Fits, Over}
+use Rattle.lent.specs.LentLaws.{neither}
 use Rattle.words.specs.Records.{recordParts, beyond, chainedTest, judgedOf}
-use Rattle.words.specs.RecordLaws.{neither, record-sum}
+use Rattle.words.specs.RecordLaws.{record-sum}
 use Rattle.words.specs.declared.Judged.the-variants.{Sum, Refused}
 use Rattle.words.proofs.records.judge.Statement.{statement}
 use Rattle.words.proofs.records.judge.Tie as tie
