@@ -3,7 +3,7 @@
 --
 -- In this order: replies and their digits; the replies of each kind, and what they can be; the reply to a line; what a call answers
 -- and leaves behind.
--- Definitions only. The theory is in ServedLaws and ReplyLaws, and that the services' outcomes are 003's chains in the crates of the
+-- Definitions only. The theory is in ServedLaws and ReplyLaws. That the services' outcomes are 003's chains is in the crates of the
 -- services.
 use mathlib.Core.Bool.{Bool, true, false, cond}
 use mathlib.Core.List.{List, [], _∷_, map}

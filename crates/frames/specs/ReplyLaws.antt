@@ -1,9 +1,9 @@
 -- Theory of the reply to a line.
 --
--- In this order: a line's first 515 characters (`first-515`); a fit line is replied to as its kind; every reply is an even number of
--- digits, at least 2 and at most 514, all of them as they are written (`reply-frame`), so that it is one line (`reply-unbroken`);
--- what a chain's reply is read back as (`reply-read`). What goes kind by kind is in ServedLaws. That replies lead to each other, as
--- demand 2 asks, is in LineTrips; demand 3 is in BestLines.
+-- In this order: a line's first 515 characters (`first-515`); a fit line is replied to as its kind; every reply is an even number
+-- of digits, at least 2 and at most 514, all of them as they are written (`reply-frame`), so that it is one line
+-- (`reply-unbroken`); what a chain's reply is read back as (`reply-read`). What goes kind by kind is in ServedLaws. That replies
+-- lead to each other, as demand 2 asks, is in LineTrips; demand 3 is in BestLines.
 use mathlib.Core.Path.{_≡_, refl}
 use mathlib.Core.Bool.{true}
 use mathlib.Core.List.{List, _++_, map}
