@@ -16,14 +16,17 @@ use Rattle.chains.specs.BestOfAll.{price-fits}
 use Rattle.parts.specs.Parts.{partNumber}
 use Rattle.ranking.specs.Services.{Outcome, refused, gives}
 use Rattle.best.specs.Chosen.{bestOutcome}
+use Rattle.best.specs.KeyTable.{Cheap}
 use Rattle.best.specs.Demand3.{given-is-best, refused-none}
 use Rattle.digits.specs.Digits.{digitsOf}
 use Rattle.lines.specs.Kinds.{best-line}
 use Rattle.lines.specs.Lines.{field, fit, shapeOf}
+use Rattle.lines.specs.LineLaws.{field-below}
 use Rattle.frames.specs.ReplyDigits.{chainDigits, pricedDigits, headBytes}
 use Rattle.frames.specs.ReadBack.{ChainRead, price-read}
 use Rattle.frames.specs.Replies.{refusedAs, servedWith, pricedReply, limitsIn, pricesIn, served, replyTo}
-use Rattle.frames.specs.ReplyLaws.{reply-fit, best-number, best-five, number-low, prices-cheap, reply-read}
+use Rattle.frames.specs.ServedLaws.{best-number, best-five, number-low}
+use Rattle.frames.specs.ReplyLaws.{reply-fit, reply-read}
 use Rattle.frames.specs.LineTrips.{Leads, chain-leads}
 
 -- The best chain that the line asks for, and the digits of its reply.
@@ -84,6 +87,15 @@ module _ (line : List ℕ) (f : shapeOf line ≡ fit best-line) where
               absurd (omega arith)
 
 -- ---- what the reply is read back as, and leads to
+
+prices-cheap : (line : List ℕ) → Cheap (pricesIn line)
+unfolding pricesIn
+prices-cheap line =
+    record {
+      d = omega (arith, field-below line 12 2);
+      t = omega (arith, field-below line 14 2);
+      s = omega (arith, field-below line 16 2);
+    }
 
 module _ (line ds : List ℕ) (b : BestReply line ds) where
   pub best-read : ChainRead (field line 1 8) (position (field line 1 8) (b .chain)) (map partNumber (b .chain)) ds

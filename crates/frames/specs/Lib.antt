@@ -2,6 +2,7 @@
 --   ReplyDigits  the digits of replies; ReplyDigitLaws says how many there are
 --   Replies      the reply to a line, and what a call answers and leaves behind: the definitions that the contract rests on
 --   ReadBack     digits that were written, read back as fields
+--   ServedLaws   the replies to fit lines: the one law that goes kind by kind
 --   ReplyLaws    515 characters; every reply is a frame; a chain's reply read back
 --   Refusals     which numbers a line is refused with, kind by kind
 --   LineTrips    demand 2, line by line
@@ -11,6 +12,7 @@ pub mod ReplyDigits
 pub mod ReplyDigitLaws
 pub mod Replies
 pub mod ReadBack
+pub mod ServedLaws
 pub mod ReplyLaws
 pub mod Refusals
 pub mod LineTrips

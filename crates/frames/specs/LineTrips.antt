@@ -31,9 +31,9 @@ use Rattle.lines.specs.LineLaws.{line-fit, kind-byte, row-small}
 use Rattle.frames.specs.ReplyDigits.{valuesDigits, positionAt, partsAt, headBytes, chainDigits}
 use Rattle.frames.specs.ReplyDigitLaws.{length-values, every-values}
 use Rattle.frames.specs.ReadBack.{Fitting, field-after, field-first, fields-after, fields-first, ChainRead}
-use Rattle.frames.specs.Replies.{refusedAs, servedWith, chainReply, served, replyTo}
-use Rattle.frames.specs.ReplyLaws.{reply-fit, served-kind, Sound, endsWithChain, served-chain, numbers-fit, position-low}
-use Rattle.frames.specs.ReplyLaws.{reply-read}
+use Rattle.frames.specs.Replies.{refusedAs, servedWith, chainReply, served, replyRowOf, replyTo}
+use Rattle.frames.specs.ServedLaws.{Sound, made}
+use Rattle.frames.specs.ReplyLaws.{reply-fit, served-kind, numbers-fit, position-low, reply-read}
 
 -- ---- lines made of values
 
@@ -224,33 +224,28 @@ chain-leads n c h f =
       burned = rw (r .parts, r .each) (l .burned);
     }
 
-outcome-leads : (o : Outcome) → Sound o → (ds : List ℕ) → chainReply o ≡ servedWith ds → Leads ds
+outcome-leads : (rs : List ℕ) (o : Outcome) → Sound rs o → (ds : List ℕ) → chainReply o ≡ servedWith ds → Leads ds
 unfolding chainReply
-outcome-leads o s ds e = go o refl
-  where
-    go : (x : Outcome) → o ≡ x → Leads ds
-    go (refused r) g =
-        let z : _≡_ {A = ℕ} 0 1 = cc (rw g at e) in
-        absurd (omega arith)
-    go (gives n c) g =
-        let same : chainDigits n (position n c) (map partNumber c) ≡ ds = cc (rw g at e) in
-        rw same at (chain-leads n c (s .chain n c g) (s .fits n c g))
+outcome-leads rs (refused r) s ds e = let z : _≡_ {A = ℕ} 0 1 = cc in absurd (omega arith)
+outcome-leads rs (gives n c) s ds e =
+    let same : chainDigits n (position n c) (map partNumber c) ≡ ds = cc in
+    rw same at (chain-leads n c (s .0) (s .1))
 
 -- So do all replies of the kinds 03, 04, 05 and 06.
-pub reply-leads : (line ds : List ℕ) (k : Kind) → kindOf (field line 0 1) ≡ some k → T (endsWithChain k)
+pub reply-leads : (line ds : List ℕ) (k : Kind) → kindOf (field line 0 1) ≡ some k → T (replyRowOf k .endsWithChain)
     → replyTo line ≡ servedWith ds → Leads ds
 reply-leads line ds k first t e =
-    let (o, sound, f) = served-chain k line t in
-    outcome-leads o sound ds (sym f ∙ served-kind line ds k first e)
+    let (o, sound, f) = made k line .chain t in
+    outcome-leads _ o sound ds (sym f ∙ served-kind line ds k first e)
 
 -- A burned record in particular: what its reply tells, asked for at that position, gets the same digits.
 pub record-then-at : (l ds : List ℕ) → replyTo (recordLine l) ≡ servedWith ds
     → replyTo (atLine (field ds 1 8) (field ds positionAt 8)) ≡ servedWith ds
-unfolding itemsLine endsWithChain
+unfolding itemsLine replyRowOf
 record-then-at l ds e = reply-leads (recordLine l) ds record-line (first-byte record-line _) tt e .placed
 
 -- And back: the part numbers that stand in the reply at a position, read as a record, get the same digits.
 pub at-then-record : (n i : ℕ) (ds : List ℕ) → replyTo (atLine n i) ≡ servedWith ds
     → replyTo (recordLine (fields ds headBytes 2 (field ds partsAt 1))) ≡ servedWith ds
-unfolding atLine endsWithChain
+unfolding atLine replyRowOf
 at-then-record n i ds e = reply-leads (atLine n i) ds at-line (first-byte at-line _) tt e .burned

@@ -1,10 +1,12 @@
 -- The reply to a line, from the line's characters alone: document 01, 'Frames' and 'What a refused line or call gets'. It is a
 -- function of the line: neither the lines before it nor what the lent memory held has a part in it.
 --
--- In this order: replies and their digits; the reply to a line; what a call answers and leaves behind.
--- Definitions only. The theory is in ReplyLaws, and that the services' outcomes are 003's chains in the crates of the services.
+-- In this order: replies and their digits; the replies of each kind, and what they can be; the reply to a line; what a call answers
+-- and leaves behind.
+-- Definitions only. The theory is in ServedLaws and ReplyLaws. That the services' outcomes are 003's chains is in the crates of the
+-- services.
 use mathlib.Core.Bool.{Bool, true, false, cond}
-use mathlib.Core.List.{List, map}
+use mathlib.Core.List.{List, [], _∷_, map}
 use Prim.Native.Nat.{ℕ}
 use lib.ListN.{length}
 use Rattle.chains.specs.Listing.{count, position}
@@ -42,7 +44,7 @@ unfoldable pub pricedReply : Prices → Outcome → Reply
 pricedReply π (refused r) = refusedAs r
 pricedReply π (gives n c) = servedWith (pricedDigits n (position n c) (map partNumber c) (price π c))
 
--- ---- the reply to a line
+-- ---- the replies of each kind, and what they can be
 
 -- What a line of kind 02 asks for after n: K, A, B, then d, t, s.
 unfoldable pub limitsIn : List ℕ → Limits
@@ -59,6 +61,29 @@ served at-line line = chainReply (atPosition (field line 1 8) (field line 9 8))
 served record-line line = chainReply (ofRecord (itemsIn record-line line))
 served word-line line = chainReply (ofWord (itemsIn word-line line))
 served next-line line = chainReply (nextOf (ofWord (itemsIn next-line line)))
+
+-- What the reply to a fit line of a kind can be.
+pub record ReplyRow : Type 0 where
+  -- The numbers that the line can be refused with.
+  pub refusals : List ℕ
+  -- Whether the digits, where the line is served, end with the part numbers of a chain.
+  pub endsWithChain : Bool
+
+abbrev pub replyRow : List ℕ → Bool → ReplyRow
+replyRow refusals endsWithChain = record { refusals = refusals; endsWithChain = endsWithChain }
+
+unfoldable pub replyRowOf : Kind → ReplyRow
+replyRowOf count-line = replyRow [] false
+replyRowOf best-line = replyRow (5 ∷ []) false
+replyRowOf at-line = replyRow (6 ∷ []) true
+replyRowOf record-line = replyRow (8 ∷ 9 ∷ 10 ∷ []) true
+replyRowOf word-line = replyRow (7 ∷ 10 ∷ []) true
+replyRowOf next-line = replyRow (7 ∷ 10 ∷ 11 ∷ []) true
+
+abbrev pub refusalsOf : Kind → List ℕ
+refusalsOf k = replyRowOf k .refusals
+
+-- ---- the reply to a line
 
 unfoldable pub replyByShape : Shape → List ℕ → Reply
 replyByShape (unfit r) line = refusedAs r

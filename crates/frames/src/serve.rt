@@ -174,6 +174,8 @@ pub fn serve_kind(kind: u8, line: &[u8], scratch: &mut [u64], out: &mut [u8]) ->
         3 => serve_at(line, scratch, out),
         4 => serve_record(line, scratch, out),
         5 => serve_word(line, scratch, out),
-        _ => serve_next(line, scratch, out),
+        6 => serve_next(line, scratch, out),
+        // No other byte is that of a kind.
+        _ => serve_refusal(4, scratch, out),
     }
 }

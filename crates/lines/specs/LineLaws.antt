@@ -127,6 +127,22 @@ pub each-kind : (p : Kind → Bool) → passes p kinds ≡ true → (k : Kind) �
 unfolding kindOf
 each-kind p t k = found p kinds (rowOf k .byte) k (kind-byte k) .1 t
 
+-- The byte is that of none of some kinds: what a match over their bytes, in this order, leaves to its last arm.
+abbrev pub Left : Type 0 → List Kind → ℕ → Type 0
+Left A [] b = A
+Left A (k ∷ ks) b = Left (A × (b ≡ rowOf k .byte → ⊥)) ks b
+
+left-none : (A : Type 0) (ks : List Kind) (b : ℕ) → Left A ks b → A × (kindAmong ks b ≡ none)
+unfolding kindAmong
+left-none A [] b h = (h, refl)
+left-none A (k ∷ ks) b h =
+    let (a, e) = left-none (A × (b ≡ rowOf k .byte → ⊥)) ks b h in
+    (a .0, rw (ne-eqb b (rowOf k .byte) (a .1), kindAmong) e)
+
+pub none-left : (b : ℕ) → Left (Unit {0}) kinds b → kindOf b ≡ none
+unfolding kindOf
+none-left b h = left-none (Unit {0}) kinds b h .1
+
 -- The numbers in a row are small, and some byte stands before the items.
 pub record Small (r : Row) : Type 0 where
   pub byte-fits : r .byte < 256
@@ -259,6 +275,15 @@ kind-shape (fit j) b k e h =
     let p : rowOf j .byte ≡ b = cc in
     let o : some j ≡ some k = sym (kind-byte j) ∙ ap kindOf p ∙ h in
     cc
+
+-- The byte of a fit line is left by no match over all kinds.
+pub none-left-fit : (s : Shape) (b : ℕ) → shapeCode s ≡ answer.Kind b → Left (Unit {0}) kinds b → ⊥
+unfolding shapeCode
+none-left-fit (unfit q) b e h = let z : _≡_ {A = ℕ} 0 1 = cc in omega arith
+none-left-fit (fit k) b e h =
+    let p : rowOf k .byte ≡ b = cc in
+    let o : some k ≡ none = sym (kind-byte k) ∙ ap kindOf p ∙ none-left b h in
+    let z : _≡_ {A = ℕ} 0 1 = cc in omega arith
 
 -- ---- a line's first 515 characters
 

@@ -15,7 +15,7 @@ use Rattle.best.specs.declared.Chosen.the-variants as chosen
 use Rattle.lines.specs.LineLaws.{field-fits}
 use Rattle.frames.specs.ReplyDigits.{pricedDigits}
 use Rattle.frames.specs.Replies.{refusedAs, servedWith, pricedReply, served}
-use Rattle.frames.specs.ReplyLaws.{best-number}
+use Rattle.frames.specs.ServedLaws.{best-number}
 use Rattle.frames.proofs.CallLaws.{own-outcome, scratch-zeroed, chain-left}
 use Rattle.frames.proofs.serve.serve_best.Statement.{statement}
 use Rattle.frames.proofs.serve.serve_best.Tie as tie
