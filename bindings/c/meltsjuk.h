@@ -44,8 +44,8 @@ extern "C" {
 /* The reply to one line of hexadecimal, given without its byte 10: the digits that the program `intake` writes for it.
  *
  * Lent: the line; the scratch, MELTSJUK_SCRATCH numbers or more; `out`, MELTSJUK_REPLY bytes or more.
- * Answers how many digits the reply has, at least 2 and at most MELTSJUK_REPLY. They stand in `out`, then zeros up to MELTSJUK_REPLY,
- * and later bytes are as they were. A refused line's reply is the two digits of its number, 02 to 0B.
+ * Answers how many digits the reply has, at least 2 and at most 512. They stand in `out`, then zeros up to MELTSJUK_REPLY, so that
+ * the digits are a C string, and later bytes are as they were. A refused line's reply is the two digits of its number, 02 to 0B.
  * Answers MELTSJUK_LITTLE_LENT, which is no length, where the scratch or `out` is too short; then nothing was written. */
 uint64_t meltsjuk_reply(const uint8_t *line, size_t line_length, uint64_t *scratch, size_t scratch_length, uint8_t *out,
                         size_t out_length);

@@ -1,7 +1,7 @@
 -- Theory of the reply to a line.
 --
 -- In this order: a line's first 515 characters (`first-515`); a fit line is replied to as its kind; every reply is an even number
--- of digits, at least 2 and at most 514, all of them as they are written (`reply-frame`), so that it is one line
+-- of digits, at least 2 and at most 512, all of them as they are written (`reply-frame`), so that it is one line
 -- (`reply-unbroken`); what a chain's reply is read back as (`reply-read`). What goes kind by kind is in ServedLaws. That replies
 -- lead to each other, as demand 2 asks, is in LineTrips; demand 3 is in BestLines.
 use mathlib.Core.Path.{_≡_, refl}
@@ -67,7 +67,7 @@ reply-frame line = go (shapeOf line)
 
 -- So it fits into the bytes that are lent for it.
 pub reply-short : (line : List ℕ) → length (replyOf line) ≤ 514
-reply-short line = reply-frame line .most
+reply-short line = omega (arith, reply-frame line .most)
 
 -- And no byte 10 is in it.
 pub reply-unbroken : (line : List ℕ) → unbroken (replyOf line) ≡ true

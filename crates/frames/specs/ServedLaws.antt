@@ -117,14 +117,14 @@ module _ (n : ℕ) (lim : Limits) (π : Prices) where
 
 -- ---- frames
 
--- Whole bytes, at least one and at most as many as are lent for a reply, in digits as they are written.
+-- Whole bytes, at least one and fewer than are lent for a reply, in digits as they are written.
 pub record Frame (ds : List ℕ) : Type 0 where
   pub even : length ds % 2 ≡ 0
   pub least : 2 ≤ length ds
-  pub most : length ds ≤ 514
+  pub most : length ds ≤ 512
   pub digits : every isWritten ds ≡ true
 
-frame : (k : ℕ) (ds : List ℕ) → length ds ≡ 2 * k → 1 ≤ k → k ≤ 257 → every isWritten ds ≡ true → Frame ds
+frame : (k : ℕ) (ds : List ℕ) → length ds ≡ 2 * k → 1 ≤ k → k ≤ 256 → every isWritten ds ≡ true → Frame ds
 frame k ds n h g w = record { even = omega arith; least = omega arith; most = omega arith; digits = w }
 
 pub refusal-frame : (r : ℕ) → Frame (digitsOf 2 r)
