@@ -5,7 +5,7 @@ use Prim.Native.Nat.{ℕ}
 use borrow.Author.Needs.{needs}
 use Rattle.lines.specs.Kinds.{Kind, count-line, best-line, at-line, record-line, word-line, next-line, rowOf, kinds, kindOf}
 use Rattle.lines.specs.LineLaws.{kind-byte, Left, none-left}
-use Rattle.lines.specs.Calls.{rowWith, rowFor}
+use Rattle.lines.specs.Calls.{rowFor}
 use Rattle.lines.specs.declared.Row.{Row as RowAnswer}
 use Rattle.lines.proofs.row_of.Statement.{statement}
 use Rattle.lines.proofs.row_of.Tie as tie
