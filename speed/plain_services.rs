@@ -9,7 +9,7 @@ fn next(x: u64) -> u64 {
     x ^ (x << 17)
 }
 
-/// What an answer adds to the sum: every part number counts by its place.
+/// What an answer adds to the sum: every part number counts by its index.
 fn digest(c: &plain::Chain) -> u64 {
     let mut sum = c.position ^ (c.price << 32) ^ c.numbers.len() as u64;
     for (i, &p) in c.numbers.iter().enumerate() {

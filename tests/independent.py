@@ -132,7 +132,7 @@ def engine():
     source = os.path.join(os.path.dirname(os.path.abspath(__file__)), "independent_engine.rs")
     with tempfile.TemporaryDirectory() as folder:
         program = os.path.join(folder, "engine")
-        subprocess.run(["rustc", "--edition", "2021", "-O", "-o", program, source], check=True)
+        subprocess.run(["rustc", "--edition", "2021", "-O", "-o", program, source], check=True, timeout=600)
         running = subprocess.Popen([program], stdin=subprocess.PIPE, stdout=subprocess.PIPE, text=True)
     atexit.register(running.kill)
     return running
@@ -254,10 +254,10 @@ def check_relations(u):
 
 def check_back(n, chance):
     """A position and its word lead to each other, and words ascend with their positions; a word with another sum has no position."""
-    places = sorted({0, count(n) - 1, *(chance.randrange(count(n)) for _ in range(3))})
-    words = [word_at(n, i) for i in places]
+    positions = sorted({0, count(n) - 1, *(chance.randrange(count(n)) for _ in range(3))})
+    words = [word_at(n, i) for i in positions]
     assert words == sorted(words) and ask("at", n, count(n)) is None
-    for i, word in zip(places, words):
+    for i, word in zip(positions, words):
         chain = chain_of(word)
         assert good(word) and word_of(chain) == word and sum_of(chain) == n and position_of(word) == i
         assert ask("position", n ^ 1, word) is None
@@ -586,7 +586,7 @@ def test_words():
         yield judged(numbers) + told_of_record(numbers, 66) + told_of_record(numbers, 63)
 
 
-# ---- the services that find a chain or its place
+# ---- the services that find a chain or its position
 
 
 def digest(numbers):
@@ -639,8 +639,8 @@ def record_line(numbers):
     if len(reply) == 2:
         return f"{int(reply, 16)} "
     chain = [TABLE[i] for i in numbers]
-    place = (sum_of(chain), position_of(word_of(chain)))
-    return "= " if place == (0, 0) else "%d %d " % place
+    found = (sum_of(chain), position_of(word_of(chain)))
+    return "= " if found == (0, 0) else "%d %d " % found
 
 
 def shifts(times):

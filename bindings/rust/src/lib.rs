@@ -80,7 +80,7 @@ pub struct Prices {
 /// The best chain of a number.
 #[derive(Clone, Debug, PartialEq, Eq)]
 pub struct Best {
-    /// Its part numbers, largest part first: places in the table of all parts below 2^64, ascending from number 0.
+    /// Its part numbers, largest part first: indices in the table of all parts below 2^64, ascending from number 0.
     pub parts: Vec<u16>,
     /// Its position in the list of all chains of the number.
     pub position: u64,

@@ -5,8 +5,8 @@ use mathlib.Core.List.{List, map}
 use mathlib.Core.Option.{none, some}
 use Prim.Native.Nat.{ℕ, _≤_}
 use lib.Dec.{T}
-use lib.ListN.{length, take, drop}
-use Rattle.lent.specs.Lent.{filled, scratchSize, Enough}
+use lib.ListN.{length, take}
+use Rattle.lent.specs.Lent.{filled, Enough}
 use Rattle.chains.specs.Chains.{total}
 use Rattle.chains.specs.Words.{chainOf, reads}
 use Rattle.chains.specs.Best.{Prices, price, Limits, bestChain}
@@ -19,17 +19,12 @@ pub record ChoosingAsked (scratch letters places : List ℕ) : Type 0 where
   pub lent : Enough 64 scratch places
   pub room : 64 ≤ length letters
 
--- The scratch was used: what stands behind its first `scratchSize` is as it was.
-pub record Used (entry exit : List ℕ) : Type 0 where
-  pub same : length exit ≡ length entry
-  pub later : drop scratchSize exit ≡ drop scratchSize entry
-
 -- The first i letters are the word of the best chain of n, which has k parts and the price p.
 pub record WordChosen (n : ℕ) (lim : Limits) (π : Prices) (letters : List ℕ) (i k p : ℕ) : Type 0 where
   pub good : T (reads true (take i letters))
   pub number : total (chainOf (take i letters)) ≡ n
   pub chain : bestChain n lim π ≡ some (chainOf (take i letters))
-  pub parts : k ≡ length (chainOf (take i letters))
+  pub part-count : k ≡ length (chainOf (take i letters))
   pub told : p ≡ price π (chainOf (take i letters))
   pub room : i ≤ 64
 

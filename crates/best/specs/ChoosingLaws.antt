@@ -12,7 +12,7 @@ use lib.Dec.{T}
 use lib.ListN.{length, getD, take, length-map}
 use borrow.Author.Tests.{le-leb, lt-leb}
 use borrow.Rule.Slice.PartMut.{midOf, putMid}
-use Rattle.lent.specs.Lent.{zeros, filled}
+use Rattle.lent.specs.Lent.{zeros, filled, OnlyFirst, scratchSize}
 use Rattle.lent.specs.LentLaws.{length-filled, cleared, over-zeros}
 use Rattle.parts.specs.Parts.{partNumber}
 use Rattle.chains.specs.Chains.{Part, ChainOf, total}
@@ -35,7 +35,7 @@ use Rattle.best.specs.KeyTableLaws.{prices-low, prices-costs}
 use Rattle.best.specs.KeyRows.{RowsOfKeys}
 use Rattle.best.specs.Walk.{Keyed, bestFrom, bestWord, KeyStart, BestWritten}
 use Rattle.best.specs.WalkLaws.{least-of-all, best-chosen}
-use Rattle.best.specs.Choosing.{ChoosingAsked, Used, WordChosen, ChosenBy}
+use Rattle.best.specs.Choosing.{ChoosingAsked, WordChosen, ChosenBy}
 
 -- By the case that was met.
 module _
@@ -54,7 +54,7 @@ pub zero-chosen : (n : ℕ) (lim : Limits) (π : Prices) (letters entry : List �
     → ChosenBy n lim π letters entry (putMid 0 64 entry ys) (choice.Word 0 0 0)
 unfolding reads total chainOf chainFrom price
 zero-chosen n lim π letters entry {ys} e h z = (
-  record { good = tt; number = sym e; chain = rw e (best-of-zero lim π); parts = refl; told = refl; room = omega arith },
+  record { good = tt; number = sym e; chain = rw e (best-of-zero lim π); part-count = refl; told = refl; room = omega arith },
   cleared 64 entry entry ys h refl z,
 )
 
@@ -98,7 +98,8 @@ module _ {n : ℕ} (lim : Limits) (π : Prices) (fits : n < 2 ^ 64) (cheap : Che
       go (some w) e = rw (lt-leb (length (chainOf w)) (lim .K) (omega (arith, least-tells w e)))
 
   -- The best word is good and has as many parts as the least key counts.
-  pub word-parts : (w : Word) → best ≡ some w → T (reads true w) × (leastOf / partWeight ≡ length (chainOf w)) × (length (chainOf w) ≤ 64)
+  pub word-parts : (w : Word) → best ≡ some w
+      → T (reads true w) × (leastOf / partWeight ≡ length (chainOf w)) × (length (chainOf w) ≤ 64)
   word-parts w e =
       let m = listed w e in
       let c : ChainOf n (chainOf w) = record { chained = word-chained w; sums = m .1 } in
@@ -116,7 +117,7 @@ module _ {n : ℕ} (lim : Limits) (π : Prices) (fits : n < 2 ^ 64) (cheap : Che
         chain =
             sym (keyed-is-best partWeight n lim π all-fit)
             ∙ rw (e, le-leb (length (chainOf (take i letters))) (lim .K) (omega arith));
-        parts = omega arith;
+        part-count = omega arith;
         told = omega arith;
         room = room;
       }
@@ -151,7 +152,7 @@ module _
       key-is : getD l 0 0 ≡ leastKey noKey (costsOf partWeight π) (lim .A) (lim .B) true origin n
       key-is = least-of-all keyed (b .some-left) ∙ rw (b .costs-are, prices-costs)
 
-      pub filled-used : Used entry l
+      pub filled-used : OnlyFirst scratchSize entry l
       filled-used = record { same = f .same; later = f .later }
 
       pub filled-none : lim .K < getD l 0 0 / partWeight → bestChain n lim π ≡ none
@@ -185,7 +186,7 @@ module _
                 some-left = b .some-left;
                 found = found;
                 good = parted .0;
-                parts = parted .1;
+                part-count = parted .1;
                 room = b .asked .room;
                 enough = rw back (omega (arith, parted, length-filled 64 [] places (omega arith) (b .asked .lent .room)));
               }
@@ -204,5 +205,5 @@ module _
               numbers : exit′ ≡ filled 64 (map partNumber (chainOf (take i exit))) places
               numbers =
                   let c = chainOf (take i exit) in
-                  let k : getD l 0 0 / partWeight ≡ length (map partNumber c) = word .parts ∙ sym (length-map c partNumber) in
-                  rw (back, k) at (w .stored) ∙ over-zeros 64 (map partNumber c) places (omega (arith, word .parts, parted))
+                  let k : getD l 0 0 / partWeight ≡ length (map partNumber c) = word .part-count ∙ sym (length-map c partNumber) in
+                  rw (back, k) at (w .stored) ∙ over-zeros 64 (map partNumber c) places (omega (arith, word .part-count, parted))

@@ -4,7 +4,7 @@
 --   KeyTable  what a cell of the key table holds
 --   KeyRows   what the calls that fill the key table ask and leave
 --   Walk      the walk along it that writes the best word and the numbers of its parts
---   Choosing  the word of the best chain within limits
+--   Choosing  the word of the best chain within limits, and the numbers of its parts
 pub mod Chosen
 pub mod KeyTable
 pub mod KeyTableLaws

@@ -68,31 +68,32 @@ pub record KeyStep (costs : List ℕ) (A B n : ℕ) (scratch : List ℕ) (a b : 
   pub low-a : a < 63
   pub low-b : b < 40
 
--- What the walk asks: the table, where something is left and the least key is that of a word; that the best word is a good one with k
--- parts; room for the letters, and for the numbers of the parts.
+-- What the walk asks: the table, where something is left and the least key is that of a word; that the best word is a good one with
+-- k parts; room for the letters, and for the numbers of the parts.
 pub record KeyStart (costs : List ℕ) (A B n k : ℕ) (scratch letters places : List ℕ) : Type 0 where
   pub keys : Keyed costs A B n scratch
   pub some-left : 1 ≤ n
   pub found : getD scratch 0 0 < noKey
   pub good : T (reads true (bestWord costs A B n))
-  pub parts : k ≡ length (chainOf (bestWord costs A B n))
+  pub part-count : k ≡ length (chainOf (bestWord costs A B n))
   pub room : 64 ≤ length letters
   pub enough : k ≤ length places
 
 -- The letters up to (a, b) are written, and the numbers of the parts met are stored.
 pub record KeyWriting
-    (costs : List ℕ) (A B n k : ℕ) (entry letters before places : List ℕ) (a b : ℕ) (free : Bool) (rest left : ℕ) : Type 0 where
+    (costs : List ℕ) (A B n k : ℕ) (lettersEntry letters placesEntry places : List ℕ) (a b : ℕ) (free : Bool) (rest left : ℕ)
+    : Type 0 where
   pub walked : KeyWalked costs A B n a b free rest
   pub chosen : bestFrom costs A B true 0 0 n ≡ some (bestWord costs A B n)
   pub written : take (a + b) letters ≡ take (a + b) (bestWord costs A B n)
   pub low : a + b < 64
   pub room : 64 ≤ length letters
-  pub same : length letters ≡ length entry
-  pub storing : Storing (chainOf (bestWord costs A B n)) (drop k before) (length before) (drop (a + b) (bestWord costs A B n)) places
-      a b left
+  pub same : length letters ≡ length lettersEntry
+  pub storing : Storing (chainOf (bestWord costs A B n)) (drop k placesEntry) (length placesEntry)
+      (drop (a + b) (bestWord costs A B n)) places a b left
 
 -- What it gives: the first i letters are the best word, and the numbers of its parts stand in the first k places.
-pub record BestWritten (costs : List ℕ) (A B n k i : ℕ) (letters before places : List ℕ) : Type 0 where
+pub record BestWritten (costs : List ℕ) (A B n k i : ℕ) (letters placesEntry places : List ℕ) : Type 0 where
   pub word : bestFrom costs A B true 0 0 n ≡ some (take i letters)
   pub room : i ≤ 64
-  pub stored : places ≡ map partNumber (chainOf (take i letters)) ++ drop k before
+  pub stored : places ≡ map partNumber (chainOf (take i letters)) ++ drop k placesEntry

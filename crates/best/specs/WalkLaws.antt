@@ -1,7 +1,8 @@
 -- The walk along a table of keys writes the best word, letter by letter: by the letter that the smaller key follows, the first
--- where both keys are equal.
+-- where both keys are equal. It also stores the numbers of the word's parts.
 --
--- In this order: a letter before a word; the laws by which the walk starts, goes on and ends; writing the letters that it passes.
+-- In this order: a letter before a word; the laws by which the walk starts, goes on and ends; writing the letters that it passes,
+-- and storing the numbers of the parts that it meets.
 use mathlib.Core.Path.{_≡_, refl, sym, ap, ap₂, _∙_}
 use mathlib.Core.Bool.{Bool, true, false, cond}
 use mathlib.Core.List.{List, [], _∷_, _++_}
@@ -24,7 +25,7 @@ use Rattle.grid.specs.Fill.{read-free, read-after-a}
 use Rattle.ranking.specs.Points.{drop-more, take-more, take-stored}
 use Rattle.chains.specs.Marks.{marks}
 use Rattle.parts.specs.Parts.{partNumber}
-use Rattle.words.specs.Storing.{storing-start, storing-more, storing-next, storing-end}
+use Rattle.words.specs.StoringLaws.{storing-start, storing-more, storing-next, storing-end}
 use Rattle.best.specs.KeyTable.{noKey, letterBy, costsBy, keyCell, thirdKey}
 use Rattle.best.specs.KeyTableLaws.{cell-at-most}
 use Rattle.best.specs.Walk.{Keyed, bestFrom, wordIn, bestWord, KeyWalked, KeyRisen}
@@ -64,8 +65,10 @@ least-of-all {costs} {A} {B} {n} {scratch} k h =
     ∙ ap (keyCell costs A B 0 0 true) (rest-origin n)
 
 -- The best word, where the least key is that of a word.
-module _ {costs : List ℕ} {A B n : ℕ} {scratch : List ℕ} (keys : Keyed costs A B n scratch) (some-left : 1 ≤ n) where
-  module _ (found : getD scratch 0 0 < noKey) where
+module _
+    {costs : List ℕ} {A B n : ℕ} {scratch : List ℕ} (keys : Keyed costs A B n scratch) (some-left : 1 ≤ n)
+    (found : getD scratch 0 0 < noKey)
+  where
     least-low : keyCell costs A B 0 0 true n < noKey
     least-low = omega (arith, least-of-all keys some-left)
 
@@ -90,7 +93,7 @@ walk-start {costs} {A} {B} {n} {k} {scratch} {letters} {places} s =
       low = omega arith;
       room = s .room;
       same = refl;
-      storing = storing-start (bestWord costs A B n) places k (s .good) (s .parts) (s .enough);
+      storing = storing-start (bestWord costs A B n) places k (s .good) (s .part-count) (s .enough);
     }
 
 -- ---- a step
@@ -231,15 +234,15 @@ module _
           some-third
           (rw add-one (omega (arith, above-is some-third, least-is, s .walked .low)))
 
--- ---- writing
+-- ---- writing and storing
 
 module _
     {costs : List ℕ}
     {A B n k a b : ℕ}
     {free : Bool}
     {rest left : ℕ}
-    {entry letters before places : List ℕ}
-    (w : KeyWriting costs A B n k entry letters before places a b free rest left) where
+    {lettersEntry letters placesEntry places : List ℕ}
+    (w : KeyWriting costs A B n k lettersEntry letters placesEntry places a b free rest left) where
   -- A part is to come, and there is a place for its number.
   pub walk-place : {l a′ b′ : ℕ} {free′ : Bool} {rest′ : ℕ} → KeyRisen costs A B n a b l a′ b′ free′ rest′
       → (0 < left) × (left ≤ length places) × (l ≤ 3)
@@ -248,7 +251,8 @@ module _
   pub walk-more : {l a′ b′ number : ℕ} {free′ : Bool} {rest′ : ℕ} → n < 2 ^ 64
       → number ≡ partNumber (record { a = a; b = b })
       → KeyRisen costs A B n a b l a′ b′ free′ rest′
-      → KeyWriting costs A B n k entry (set letters (a + b) l) before (set places (left - 1) number) a′ b′ free′ rest′ (left - l % 2)
+      → KeyWriting costs A B n k lettersEntry (set letters (a + b) l) placesEntry (set places (left - 1) number) a′ b′ free′ rest′
+      (left - l % 2)
   walk-more {l} {a′} {b′} fits e r =
       record {
         walked = r .walked;
@@ -290,7 +294,7 @@ module _
         ∙ sym (take-stored letters (a + b) 3 (omega (arith, w .low, w .room)))
 
     pub walk-end : {number : ℕ} → number ≡ partNumber (record { a = a; b = b })
-        → BestWritten costs A B n k (a + b + 1) (set letters (a + b) 3) before (set places 0 number)
+        → BestWritten costs A B n k (a + b + 1) (set letters (a + b) 3) placesEntry (set places 0 number)
     walk-end e =
         let first : left - 1 ≡ 0 = omega (arith, one-part .0) in
         record {

@@ -1,13 +1,14 @@
-// The position of a word that is known to stand in the list of its number: a walk over a count table, from the point (0, 0) up,
-// along the letters of the word. The next letter's index is a + b. Where b rises, the words with a rise of a there stand before.
+// Placing: the position of a word that is known to stand in the list of its number, by a walk over a count table, from the point
+// (0, 0) up, along the letters of the word. The next letter's index is a + b. Where b rises, the words with a rise of a there stand
+// before.
 ghost use mathlib.Core.Path.{_≡_};
 ghost use mathlib.Core.List.{[]};
 ghost use Rattle.chains.specs.Listing.{listOf, countBefore};
 ghost use Rattle.lent.specs.Lent.{filled, scratchSize};
 ghost use Rattle.ranking.specs.Walks.{Listed, RankStart};
 
-// The position, where the count table of n stands in the scratch. How many words begin with a rise of a is in the next column. b rises
-// at a letter 2 or 3, so no step branches on a letter.
+// The position, where the count table of n stands in the scratch. The next column holds how many words begin with a rise of a. Half
+// the letter tells whether b rises, so no step branches on a letter.
 fn rank_of(n: u64, letters: &[u8], scratch: &[u64]) -> u64
     requires { ⌜ RankStart n (now letters) (now scratch) ⌝ }
     ensures { λ r. ⌜ r ≡ countBefore (now (letters .entry)) (listOf n) ⌝ }

@@ -1,5 +1,5 @@
-// The walk along a table of keys that writes the best word and the numbers of its parts. It goes along the letters of the word, from the point (0, 0) up; the
-// next letter's index is a + b.
+// The walk along a table of keys that writes the best word and the numbers of its parts. It goes along the letters of the word,
+// from the point (0, 0) up; the next letter's index is a + b.
 use super::keys;
 ghost use mathlib.Core.Path.{_≡_};
 ghost use Rattle.best.specs.KeyTable.{thirdKey};
@@ -69,9 +69,9 @@ fn walk_step(
     }
 }
 
-// Writes the best word of n to the start of `letters` and tells its length; puts the numbers of its k parts in the first k places. The
-// walk meets the smallest part first, which has the last of these places. The number of each point is stored where the next part's
-// belongs: if the point is no part, a later one overwrites it.
+// Writes the best word of n to the start of `letters` and tells its length; puts the numbers of its k parts in the first k places.
+// The walk meets the smallest part first, which has the last of these places. The number of each point is stored where the next
+// part's belongs: if the point is no part, a later number overwrites it, since the last point is a part.
 pub fn write_best(
     n: u64,
     scratch: &[u64],

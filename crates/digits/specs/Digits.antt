@@ -14,7 +14,7 @@ use lib.ListN.{length, drop}
 unfoldable pub within : ℕ → ℕ → ℕ → Bool
 within low high c = leb low c && leb c high
 
--- The value of a character, and none where it is no digit: '0' is 48, 'A' is 65. The one place that says which characters are
+-- The value of a character, and none where it is no digit: '0' is 48, 'A' is 65. Nothing else says which characters are
 -- digits.
 unfoldable pub digitValue : ℕ → Option ℕ
 digitValue c =

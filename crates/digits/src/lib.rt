@@ -4,7 +4,7 @@ ghost use mathlib.Core.Option.{Option·getD};
 ghost use Prim.Native.Nat.{_%_, _^_};
 ghost use Rattle.digits.specs.Digits.{digitValue, isDigit, valueOr0, allDigits, numberOf, digitOf, putDigits};
 
-// The value of a character, and 255 where it is no digit: the one place of the code that says which characters are digits. A
+// The value of a character, and 255 where it is no digit: nothing else in the code says which characters are digits. A
 // character below a range wraps to a large difference, so one test looks at both ends of the range, and no jump depends on which
 // digit it is.
 fn value_or_255(c: u8) -> u8

@@ -15,8 +15,8 @@ pub enum Replied {
 }
 
 // Replying to one line, without its byte 10. `out` gets the reply's digits, those of a refusal's number too, then zeros up to 514;
-// the scratch gets zeros up to `lent::SCRATCH`, and both keep what stands after. Refuses with 1 first, where less is lent and nothing
-// is touched; then a line that is no frame, with 2, 3 or 4, and then with what the line's service refuses.
+// the scratch gets zeros up to `lent::SCRATCH`, and both keep what stands after. Refuses with 1 first, where less is lent and
+// nothing is touched; then a line that is no frame, with 2, 3 or 4, and then with what the line's service refuses.
 pub fn reply(line: &[u8], scratch: &mut [u64], out: &mut [u8]) -> Replied
     ensures answer { λ r. ⌜ r ≡ answerTo (tooLittle 514 (now (scratch .entry)) (now (out .entry))) (now (line .entry)) ⌝ }
     ensures out { λ _. ⌜ now (out .exit)

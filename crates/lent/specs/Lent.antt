@@ -3,6 +3,7 @@
 --
 -- In this order: the rule; the size of the scratch; whether too little is lent; the scratch at exit.
 -- Definitions only. The laws are in LentLaws.
+use mathlib.Core.Path.{_≡_}
 use mathlib.Core.Bool.{Bool, cond, _||_}
 use mathlib.Core.List.{List, [], _++_}
 use Prim.Native.Nat.{ℕ, _-_, _≤_}
@@ -18,6 +19,11 @@ zeros k = replicate k 0
 -- At exit, where `entry` stood at entry: xs, then zeros up to `size`, later ones untouched. A scratch is left with no xs.
 unfoldable pub filled : ℕ → List ℕ → List ℕ → List ℕ
 filled size xs entry = xs ++ (zeros (size - length xs) ++ drop size entry)
+
+-- Only the first `size` may have changed.
+pub record OnlyFirst (size : ℕ) (entry exit : List ℕ) : Type 0 where
+  pub same : length exit ≡ length entry
+  pub later : drop size exit ≡ drop size entry
 
 -- ---- what must be lent
 

@@ -1,4 +1,4 @@
--- The kinds of lines and how a line of each is laid out: document 01, 'Frames'. The one place that says which kinds there are.
+-- The kinds of lines and how a line of each is laid out: document 01, 'Frames'. Nothing else says which kinds there are.
 -- Definitions only.
 use mathlib.Core.Bool.{true, false}
 use mathlib.Core.List.{List, [], _∷_}

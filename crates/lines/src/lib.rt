@@ -79,7 +79,7 @@ fn row_with(before: usize, at: usize, width: usize) -> Row
     Row { before, at, width }
 }
 
-// The row of a kind by its byte: `before`, `at`, `width`. The one place of the code that says which kinds there are.
+// The row of a kind by its byte: `before`, `at`, `width`. Nothing else in the code says which kinds there are.
 fn row_of(kind: u8) -> Row
     ensures { λ r. ⌜ r ≡ rowFor (kindOf kind) ⌝ }
 {

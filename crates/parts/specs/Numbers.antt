@@ -16,8 +16,8 @@ use Rattle.chains.specs.Bounds.{part-bounds}
 use Rattle.parts.specs.Table.{rows, joined, parts}
 use Rattle.parts.specs.Parts.{limit, times, partAt, partNumber, numberOf}
 use Rattle.parts.specs.declared.Number.the-variants.{At, None}
-use Rattle.parts.specs.Tests.{each, at-each, below, at-below, ascending, ascending-pair, smaller-at, all-smaller, in-32s, look}
-use Rattle.parts.specs.Tests.{look-joined}
+use Rattle.parts.specs.Tests.{each, at-each, below, at-below, ascending, ascending-pair, smaller-at, all-smaller}
+use Rattle.parts.specs.Tests.{in-32s, look, look-joined}
 
 -- ---- the tests
 

@@ -87,13 +87,13 @@ smaller-at x (y ∷ ys) t (suc i) h =
     let later = le-of-suc-le-suc h in
     rw (lt-ltb y (getD ys i 0) (ascending-above y ys tail i later), smaller-at y ys tail i later) (omega arith)
 
--- All entries are smaller than what is above each of them.
+-- Where v is above each entry, all entries are smaller.
 pub all-smaller : (v : ℕ) (ys : List ℕ) → ((i : ℕ) → i < length ys → getD ys i 0 < v) → smaller v ys ≡ length ys
 unfolding smaller one-if
 all-smaller v [] h = refl
 all-smaller v (y ∷ ys) h = rw (lt-ltb y v (h 0 (omega arith)), all-smaller v ys (λ i l. h (suc i) (omega arith))) (omega arith)
 
--- ---- a list that is cut into rows of 32: an entry is reached by the row and the place in it
+-- ---- a list that is cut into rows of 32: an entry is reached by the row and its index in the row
 
 unfoldable pub in-32s : List (List ℕ) → Bool
 in-32s rs = each (λ (r : List ℕ). eqb (length r) 32) rs
@@ -113,11 +113,11 @@ look-joined (r ∷ rs) t k = go (look-joined rs (and-r (eqb (length r) 32) (in-3
     go later true e =
         let h : k < 32 = ltb-true k 32 e in
         let row : k / 32 ≡ 0 = omega arith in
-        let place : k % 32 ≡ k = omega arith in
-        rw (row, place) (sym (List·getD-append r (joined rs) 0 k (omega (arith, long))))
+        let column : k % 32 ≡ k = omega arith in
+        rw (row, column) (sym (List·getD-append r (joined rs) 0 k (omega (arith, long))))
     go later false e =
         let h : 32 ≤ k = ltb-false k 32 e in
         let row : k / 32 ≡ suc ((k - 32) / 32) = omega arith in
-        let place : k % 32 ≡ (k - 32) % 32 = omega arith in
+        let column : k % 32 ≡ (k - 32) % 32 = omega arith in
         let from : k ≡ length r + (k - 32) = omega (arith, long) in
-        rw (row, place) (later ∙ sym (ap (λ (n : ℕ). getD (r ++ joined rs) n 0) from ∙ getD-append-add r (joined rs) (k - 32) 0))
+        rw (row, column) (later ∙ sym (ap (λ (n : ℕ). getD (r ++ joined rs) n 0) from ∙ getD-append-add r (joined rs) (k - 32) 0))

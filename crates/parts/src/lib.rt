@@ -51,7 +51,8 @@ pub fn exponents_of(v: u64) -> Exponents
     }
 }
 
-// How many parts of the table are smaller than 2^a × 3^b: the part's number, and 1344, which is no number, where it is 2^64 or more.
+// How many entries of the table are smaller than 2^a × 3^b. Below 2^64 this is the part's number; else it is 1344, which is no
+// part's number.
 pub fn part_number(a: u64, b: u64) -> u16
     ensures { λ r. ⌜ r ≡ partNumber (record { a = a; b = b }) ⌝ }
 {

@@ -1,7 +1,7 @@
 -- The laws of a count table in the scratch, and those by which the walk over it from a word to its position starts, goes on and
--- ends. In order: the table, and what is read in it at a point; the lists at a rest of 0 and of 1, where a walk ends; the walk. What
--- a walk keeps is defined in Walks; the laws of the lists are in chains, Positions; those of the walk from a position to its word
--- are in the proofs, Walked.
+-- ends. In order: the table, and what is read in it at a point; the lists at a rest of 0 and of 1, where a walk ends; the walk.
+-- What a walk keeps is defined in Walks; the laws of the lists are in chains, Positions; those of the walk from a position to its
+-- word are in the proofs, Walked.
 use mathlib.Core.Path.{_≡_, refl, ap, _∙_}
 use mathlib.Core.Bool.{Bool, true, false}
 use mathlib.Core.List.{List, [], _∷_, List·Memᴰ, List·Memᴰ·not-nil, List·Memᴰ·eq-of-singleton}

@@ -17,7 +17,8 @@ fn rising_a(n: u64, a: usize, b: usize, scratch: &[u64]) -> u64
     scratch[128 * b + 2 * a + 3]
 }
 
-// The position in the list of n of a word that stands there. b rises at a letter 2 or 3, so no step branches on a letter.
+// The position in the list of n of a word that stands there. Half the letter tells whether b rises, so no step branches on a
+// letter.
 pub fn rank_of(n: u64, letters: &[u8], scratch: &[u64]) -> u64
     requires { ⌜ RankStart n (now letters) (now scratch) ⌝ }
     ensures { λ r. ⌜ r ≡ countBefore (now (letters .entry)) (listOf n) ⌝ }

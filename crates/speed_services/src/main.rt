@@ -14,10 +14,10 @@ fn next(x: u64) -> u64 {
     z ^ (z << 17)
 }
 
-// The decimal number that the word at `place` is; 0 where there is none.
-fn word_at(place: usize) -> u64 {
+// The decimal number that the word at the index `at` is; 0 where there is none.
+fn word_at(at: usize) -> u64 {
     let mut text = io::buffer();
-    let length = os::arg(place, &mut text);
+    let length = os::arg(at, &mut text);
     let mut n: u64 = 0;
     let mut i = 0;
     while i < text.len() {
@@ -34,7 +34,7 @@ fn wide(x: u16) -> u64 {
     x as u64
 }
 
-// What a chain adds to the sum: every part number counts by its place. There are at most k of them among the places.
+// What a chain adds to the sum: every part number counts by its index. There are at most k of them among the places.
 fn digest(position: u64, price: u64, k: u64, places: &[u16; 64]) -> u64 {
     let mut sum = position ^ (price << 32) ^ k;
     let mut i: u64 = 0;

@@ -10,14 +10,14 @@ use native.Mathlib.Omega.{arith}
 use lib.ListN.{length, take, drop, getD, length-append, length-drop}
 use lib.Seq.{length-take-le, take-all, take-add, take-suc, take-at, drop-at}
 use Rattle.lent.specs.LentLaws.{length-zeros, length-filled}
-use Rattle.lent.specs.Lent.{filled, zeros, scratchSize}
+use Rattle.lent.specs.Lent.{filled, zeros, OnlyFirst, scratchSize}
 use Rattle.lines.specs.Stream.{finished, unfinished, repliesTo}
 use Rattle.lines.specs.StreamLaws.{finished-append, finished-stretch, finished-line, replies-append, take-first}
 use Rattle.lines.specs.StreamLaws.{unfinished-append, unfinished-stretch, unfinished-line}
 use Rattle.frames.specs.Replies.{replyOf}
 use Rattle.frames.specs.ReplyLaws.{first-515}
 use Rattle.stream.specs.Answers.{Lending, behind, behindOne, Goes}
-use Rattle.stream.specs.Pieces.{piece, LineEnd, Later, Keeps, Adds, Wrote}
+use Rattle.stream.specs.Pieces.{piece, LineEnd, Keeps, Adds, Wrote}
 
 -- ---- lists
 
@@ -33,7 +33,7 @@ up-to-end block at end h l e =
 rest-of : (block : List ℕ) (at : ℕ) → piece at (length block) block ≡ drop at block
 rest-of block at = take-all (length block - at) (drop at block) (omega (arith, length-drop at block))
 
-pub later-filled : (size : ℕ) (entry : List ℕ) → size ≤ length entry → Later size entry (filled size [] entry)
+pub later-filled : (size : ℕ) (entry : List ℕ) → size ≤ length entry → OnlyFirst size entry (filled size [] entry)
 unfolding filled
 later-filled size entry h =
     record {
@@ -41,19 +41,19 @@ later-filled size entry h =
       same = length-filled size [] entry (omega arith) h;
     }
 
-pub later-twice : (size : ℕ) (a b c : List ℕ) → Later size a b → Later size b c → Later size a c
+pub later-twice : (size : ℕ) (a b c : List ℕ) → OnlyFirst size a b → OnlyFirst size b c → OnlyFirst size a c
 later-twice size a b c x y = record { later = y .later ∙ x .later; same = y .same ∙ x .same }
 
 -- ---- the invariant
 
--- The lines that end before `at` are answered, and of the one that does not the first characters are kept; `end` is the place of
+-- The lines that end before `at` are answered, and of the one that does not the first characters are kept; `end` is the index of
 -- the next byte 10.
 pub record Turn (line block keptEntry scratchEntry outEntry kept scratch out : List ℕ) (at left written end : ℕ) : Type 0 where
   pub line-end : LineEnd block at end
   pub wrote : Wrote (finished line (take at block)) outEntry out written
   pub same : length out ≡ length outEntry
   pub keeps : Keeps (unfinished line (take at block)) keptEntry kept left
-  pub rest : Later scratchSize scratchEntry scratch
+  pub rest : OnlyFirst scratchSize scratchEntry scratch
 
 -- ---- the start
 
@@ -118,7 +118,7 @@ module _ {line block keptEntry scratchEntry outEntry kept scratch out : List ℕ
   same-reply = first-515 (take left kept ++ piece at end block) ∙ ap replyOf same-first ∙ sym (first-515 (readTo line block at end))
 
   pub one-more : (keptExit scratchExit outExit : List ℕ) (n next : ℕ) → end < length block → scratchSize ≤ length scratchEntry
-      → Adds (replyOf (take left kept ++ piece at end block)) written out outExit n → Later 515 kept keptExit
+      → Adds (replyOf (take left kept ++ piece at end block)) written out outExit n → OnlyFirst 515 kept keptExit
       → scratchExit ≡ filled scratchSize [] scratch
       → LineEnd block (end + 1) next
       → Turn line block keptEntry scratchEntry outEntry keptExit scratchExit outExit (end + 1) 0 n next

@@ -5,34 +5,30 @@ use mathlib.Core.Bool.{true}
 use mathlib.Core.List.{List, _∷_, _++_}
 use Prim.Native.Nat.{ℕ, _+_, _-_, _≤_, _<_}
 use lib.ListN.{length, take, drop, getD}
+use Rattle.lent.specs.Lent.{OnlyFirst}
 use Rattle.lines.specs.Stream.{unbroken, repliesTo}
 use Rattle.frames.specs.Replies.{replyOf}
 use Rattle.frames.specs.declared.Replied.{Replied}
 use Rattle.frames.specs.declared.Replied.the-variants as replied
 use Rattle.stream.specs.Answers.{behindOne, behind}
 
--- The characters of a block from a place up to another.
+-- The characters of a block from an index up to another.
 abbrev pub piece : ℕ → ℕ → List ℕ → List ℕ
 piece from to block = take (to - from) (drop from block)
 
--- `end` is the place of the first byte 10 from `from` on, or the block's length.
+-- `end` is the index of the first byte 10 from `from` on, or the block's length.
 pub record LineEnd (block : List ℕ) (from end : ℕ) : Type 0 where
   pub after : from ≤ end
   pub within : end ≤ length block
   pub unbroken-before : unbroken (piece from end block) ≡ true
   pub ended : end < length block → getD block end 0 ≡ 10
 
--- From a place on nothing changed.
-pub record Later (place : ℕ) (entry exit : List ℕ) : Type 0 where
-  pub later : drop place exit ≡ drop place entry
-  pub same : length exit ≡ length entry
-
 -- The first n of `exit` are the first 515 characters of a line; from 515 on nothing changed.
 pub record Keeps (line entry exit : List ℕ) (n : ℕ) : Type 0 where
   pub first : take n exit ≡ take 515 line
   pub count : n ≡ length (take 515 line)
   pub most : n ≤ 515
-  pub rest : Later 515 entry exit
+  pub rest : OnlyFirst 515 entry exit
 
 -- A reply and its byte 10 stand at `at`, and end before n.
 pub record Adds (reply : List ℕ) (at : ℕ) (entry exit : List ℕ) (n : ℕ) : Type 0 where

@@ -7,11 +7,11 @@ ghost use mathlib.Core.Bool.{false};
 ghost use mathlib.Core.List.{[], _++_};
 ghost use Prim.Native.Nat.{_+_, _≤_, min};
 ghost use lib.ListN.{length, take};
-ghost use Rattle.lent.specs.Lent.{filled, scratchSize, scratchLeft};
+ghost use Rattle.lent.specs.Lent.{filled, OnlyFirst, scratchSize, scratchLeft};
 ghost use Rattle.lines.specs.Stream.{finished, unfinished, lastLine};
 ghost use Rattle.frames.specs.Replies.{replyOf};
 ghost use Rattle.stream.specs.Answers.{little, Lending, Goes, usedOf, fedOf, keptLeft, repliesLeft, endedOf};
-ghost use Rattle.stream.specs.Pieces.{LineEnd, Later, Keeps, Adds, Wrote, digitsTold};
+ghost use Rattle.stream.specs.Pieces.{LineEnd, Keeps, Adds, Wrote, digitsTold};
 
 // What a block gets: how much of it was used, how many characters are kept of the line that it leaves unfinished, and how many
 // bytes of replies were written; or the number of the refusal.
@@ -46,7 +46,7 @@ fn is_little(kept: &[u8], k: usize, scratch: &[u64], out: &[u8]) -> bool
     k > 515
 }
 
-// The place of the first byte 10 of the block from `from` on, and the block's length where there is none.
+// The index of the first byte 10 of the block from `from` on, and the block's length where there is none.
 fn line_end(block: &[u8], from: usize) -> usize
     requires { ⌜ from ≤ length (now block) ⌝ }
     ensures { λ r. ⌜ LineEnd (now (block .entry)) from r ⌝ }
@@ -125,7 +125,7 @@ fn finish_line(
     requires { ⌜ at + 515 ≤ length (now out) ⌝ }
     ensures { λ r. ⌜ Adds (replyOf (take k (now (kept .entry)) ++ now (part .entry))) at (now (out .entry)) (now (out .exit)) r ⌝ }
     ensures { λ _. ⌜ now (scratch .exit) ≡ filled scratchSize [] (now (scratch .entry)) ⌝ }
-    ensures { λ _. ⌜ Later 515 (now (kept .entry)) (now (kept .exit)) ⌝ }
+    ensures { λ _. ⌜ OnlyFirst 515 (now (kept .entry)) (now (kept .exit)) ⌝ }
 {
     if k == 0 {
         return answer_line(part, scratch, out, at);
@@ -155,7 +155,7 @@ fn answer_lines(
         (now (out .exit)) (r .written) ⌝ }
     ensures { λ r. ⌜ Keeps (unfinished (take k (now (kept .entry))) (take (r .used) (now (block .entry)))) (now (kept .entry))
         (now (kept .exit)) (r .kept) ⌝ }
-    ensures { λ _. ⌜ Later scratchSize (now (scratch .entry)) (now (scratch .exit)) ⌝ }
+    ensures { λ _. ⌜ OnlyFirst scratchSize (now (scratch .entry)) (now (scratch .exit)) ⌝ }
 {
     let mut at = 0;
     let mut left = k;

@@ -83,17 +83,9 @@ fn print_sum(table: &[u64], numbers: &[u16]) {
     end_line();
 }
 
-// A part's number; a number past the table where it has none.
-fn number(a: u64, b: u64) -> u16 {
-    match parts::number_of(a, b) {
-        Number::At(number) => number,
-        Number::None => 1344,
-    }
-}
-
 // 2^a × 3^b + 2^c × 3^d.
 fn print_pair(table: &[u64], a: u64, b: u64, c: u64, d: u64) {
-    let numbers = [number(a, b), number(c, d)];
+    let numbers = [parts::part_number(a, b), parts::part_number(c, d)];
     print_sum(table, &numbers);
 }
 
@@ -102,7 +94,7 @@ fn powers() -> [u16; 65] {
     let mut numbers = [0u16; 65];
     let mut a = 0;
     while a < 64 {
-        numbers[a] = number(a as u64, 0);
+        numbers[a] = parts::part_number(a as u64, 0);
         a += 1;
     }
     numbers

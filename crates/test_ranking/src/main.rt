@@ -26,6 +26,9 @@ fn text(t: &[u8]) {
 
 // ---- memory
 
+// The size of a scratch, as document 01 has it.
+const SCRATCH: usize = 5248;
+
 fn full_scratch() -> [u64; 6000]
     ensures { λ r. ⌜ 6000 ≡ length r ⌝ }
 {
@@ -42,7 +45,7 @@ fn full_places() -> [u16; 70]
 fn lent(n: u64) -> usize
     ensures { λ r. ⌜ r ≤ 6000 ⌝ }
 {
-    if n % 2 == 0 { 5248 } else { 6000 }
+    if n % 2 == 0 { SCRATCH } else { 6000 }
 }
 
 // The first `count` are zero, and the rest is as it was.
@@ -130,7 +133,7 @@ struct Given {
 fn given_at(n: u64, position: u64, scratch: &mut [u64]) -> Given {
     let mut places = full_places();
     let found = ranking::chain_at(n, position, scratch, &mut places);
-    let right = is_left(scratch, 5248) & is_kept(&places, 64);
+    let right = is_left(scratch, SCRATCH) & is_kept(&places, 64);
     Given {
         found,
         places,
@@ -141,7 +144,7 @@ fn given_at(n: u64, position: u64, scratch: &mut [u64]) -> Given {
 fn given_word(letters: &[u8], scratch: &mut [u64]) -> Given {
     let mut places = full_places();
     let found = ranking::read_word(letters, scratch, &mut places);
-    let right = is_left(scratch, 5248) & is_kept(&places, 64);
+    let right = is_left(scratch, SCRATCH) & is_kept(&places, 64);
     Given {
         found,
         places,
@@ -152,7 +155,7 @@ fn given_word(letters: &[u8], scratch: &mut [u64]) -> Given {
 fn given_next(letters: &[u8], scratch: &mut [u64]) -> Given {
     let mut places = full_places();
     let found = ranking::next_chain(letters, scratch, &mut places);
-    let right = is_left(scratch, 5248) & is_kept(&places, 64);
+    let right = is_left(scratch, SCRATCH) & is_kept(&places, 64);
     Given {
         found,
         places,
@@ -168,7 +171,7 @@ struct Told {
 
 fn told_record(numbers: &[u16], scratch: &mut [u64]) -> Told {
     let placed = ranking::read_record(numbers, scratch);
-    let right = is_left(scratch, 5248);
+    let right = is_left(scratch, SCRATCH);
     Told { placed, right }
 }
 

@@ -2,7 +2,6 @@
 // its word written from them, any other not at all; then how any two good words of up to three letters compare; then words at the
 // edges and damaged ones, and records that are refused or just fit, each with the lent places, which hold 170 at entry.
 use libc::STDOUT_FILENO;
-use parts::Number;
 use words::Compared;
 use words::Judged;
 use words::Parted;
@@ -309,17 +308,9 @@ fn show_record(numbers: &[u16]) {
     text(b"\n");
 }
 
-// A part's number; a number past the table where it has none.
-fn number(a: u64, b: u64) -> u16 {
-    match parts::number_of(a, b) {
-        Number::At(number) => number,
-        Number::None => 1344,
-    }
-}
-
 // 2^a × 3^b and 2^c × 3^d.
 fn show_pair(a: u64, b: u64, c: u64, d: u64) {
-    let numbers = [number(a, b), number(c, d)];
+    let numbers = [parts::part_number(a, b), parts::part_number(c, d)];
     show_record(&numbers);
 }
 
@@ -327,7 +318,7 @@ fn show_pair(a: u64, b: u64, c: u64, d: u64) {
 fn powers() -> [u16; 65] {
     let mut numbers = [0u16; 65];
     for i in 0..64 {
-        numbers[i] = number((63 - i) as u64, 0);
+        numbers[i] = parts::part_number((63 - i) as u64, 0);
     }
     numbers
 }

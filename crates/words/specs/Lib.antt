@@ -7,7 +7,7 @@
 --   WordLaws     chains through records and words
 -- What the private functions cite:
 --   Walks        the walk that writes a word
---   Storing      the walk along a word that stores the numbers of its parts
+--   Storing      the walk along a word that stores the numbers of its parts; its laws are in StoringLaws
 pub mod Answers
 pub mod Records
 pub mod Conversions
@@ -18,3 +18,4 @@ pub mod Refusals
 pub mod WordLaws
 pub mod Walks
 pub mod Storing
+pub mod StoringLaws

@@ -8,11 +8,11 @@ use borrow.Author.Needs.{needs}
 use borrow.Rule.Slice.PartMut.{midOf, putMid}
 use lib.ListN.{length, take}
 use Rattle.lent.specs.LentLaws.{cleared}
-use Rattle.lent.specs.Lent.{zeros, filled, scratchSize, scratchLeft}
+use Rattle.lent.specs.Lent.{zeros, filled, OnlyFirst, scratchSize, scratchLeft}
 use Rattle.lines.specs.Stream.{finished, unfinished}
 use Rattle.stream.specs.Answers.{Goes, usedOf, fedOf, keptLeft, repliesLeft}
 use Rattle.stream.specs.AnswerLaws.{lent-enough}
-use Rattle.stream.specs.Pieces.{Later, Keeps, Wrote}
+use Rattle.stream.specs.Pieces.{Keeps, Wrote}
 use Rattle.stream.specs.declared.Fed.{Fed}
 use Rattle.stream.specs.declared.Fed.the-variants as fed
 use Rattle.stream.proofs.answer_block.Statement.{statement}
@@ -40,7 +40,7 @@ too-little b line block kept scratch out e = rw e (refl, ((λ f. absurd (true≢
 done : (b : Bool) (line block keptEntry kept keptExit scratchEntry scratch part outEntry out : List ℕ) (used left written : ℕ)
     → b ≡ false → scratchSize ≤ length scratchEntry → Goes line block outEntry used
     → Wrote (finished line (take used block)) outEntry out written
-    → Keeps (unfinished line (take used block)) keptEntry kept left → Later scratchSize scratchEntry scratch
+    → Keeps (unfinished line (take used block)) keptEntry kept left → OnlyFirst scratchSize scratchEntry scratch
     → keptExit ≡ filled 515 (take left kept) kept → part ≡ zeros (length (midOf 0 scratchSize scratch))
     → Contract b line block keptEntry keptExit scratchEntry (putMid 0 scratchSize scratch part) outEntry out
     (fed.Taken used left written)

@@ -26,14 +26,21 @@ begun c =
 returns : tie.Need-returns
 returns c =
     let z = c .before .before in
-    let s = z .before .before .before .before .before .before in
-    (zero-chosen _ _ _ _ _ (z .before .before .if1 .taken) (s .pre .lent .room) (z .clear-u16 .ensures), record { same = refl; later = refl })
+    let s = z .before .before .before .before .before .before in (
+      zero-chosen _ _ _ _ _ (z .before .before .if1 .taken) (s .pre .lent .room) (z .clear-u16 .ensures),
+      record { same = refl; later = refl },
+    )
 
 returns-2 : tie.Need-returns-2
 returns-2 c =
     let f = c .before .before .before .before .before in
     let b = begun (f .before .before .before) in
     ((filled-none b (f .fill-rows .ensures) (c .if2 .taken), refl), filled-used b (f .fill-rows .ensures))
+
+places-end : tie.Need-part-clear-u16-end-2
+places-end c =
+    let f = c .before .before .before .before .before in
+    omega (arith, begun (f .before .before .before) .asked .lent .room)
 
 write-best-requires : tie.Need-write-best-requires
 write-best-requires c κs =
@@ -71,7 +78,7 @@ choose-spec =
     returns-2
     (λ c. search needs)
     (λ c. search needs)
-    (λ c. omega (arith, c .before .before .before .before .before .before .before .before .before .before .before .before .before .before .before .pre .lent .room))
+    places-end
     (λ c κs. search needs)
     write-best-requires
     (λ c. search needs)

@@ -1,5 +1,5 @@
--- `write_best` writes the best word and the numbers of its parts: the letters up to (a, b) are written, the numbers of the parts met
--- are stored, and at most 64 - (a + b) letters are left.
+-- `write_best` writes the best word and the numbers of its parts: the letters up to (a, b) are written, the numbers of the parts
+-- met are stored, and at most 64 - (a + b) letters are left.
 use Rattle.best.specs.Walk.{KeyWriting}
 use Rattle.best.specs.WalkLaws.{walk-start, step-asked, walk-place, walk-more, one-part, walk-end}
 use native.Mathlib.Omega.{arith}
@@ -27,7 +27,8 @@ walk-step-requires c κs =
 
 -- The place for the next number, in the loop.
 place : (c : tie.After-part-number Inv-loop μ-loop) →
-    let l = c .before .before .before .before .loop in (0 < l .left) × (l .left ≤ length (l .places)) × (c .before .walk-step .result .letter ≤ 3)
+    let l = c .before .before .before .before .loop in
+    (0 < l .left) × (l .left ≤ length (l .places)) × (c .before .walk-step .result .letter ≤ 3)
 place c = walk-place (c .before .before .before .before .loop .inv) (c .before .walk-step .ensures)
 
 loop-less : tie.Need-loop-less Inv-loop μ-loop
@@ -37,7 +38,8 @@ loop-again : tie.Need-loop-again Inv-loop μ-loop
 loop-again c =
     let p = c .before in
     let l = p .before .before .before .before in
-    walk-more (l .loop .inv) (l .before .before .before .before .fits .n .fits) (p .part-number .ensures) (p .before .walk-step .ensures)
+    walk-more (l .loop .inv) (l .before .before .before .before .fits .n .fits) (p .part-number .ensures)
+    (p .before .walk-step .ensures)
 
 first : tie.Need-slice-write-places-2 Inv-loop μ-loop
 first c = omega (arith, one-part (c .before .before .before .before .loop .inv) (c .before .before .if1 .left))

@@ -28,7 +28,8 @@ next : (c : tie.After-rising-a Inv-loop μ-loop) →
     let a = l .before .before .before .args in
     let x = getD (a .letters .now) (l .loop .a + l .loop .b) 0 in
     (x ≤ 3)
-    × RankWalked (a .n) (a .letters .now) (l .loop .a + (1 - x / 2)) (l .loop .b + x / 2) (l .loop .before + x / 2 * c .rising-a .result)
+    × RankWalked (a .n) (a .letters .now) (l .loop .a + (1 - x / 2)) (l .loop .b + x / 2)
+    (l .loop .before + x / 2 * c .rising-a .result)
 next c =
     let t = c .before .before in
     let i = t .before .loop .inv .0 in

@@ -13,7 +13,8 @@ use Rattle.chains.specs.Words.{Word, chainOf}
 use Rattle.chains.specs.Marks.{point}
 use Rattle.chains.specs.Bounds.{part-bounds}
 use Rattle.parts.specs.Parts.{limit, partNumber}
-use Rattle.words.specs.Storing.{Storing, storing-start, storing-more, storing-low, storing-next, storing-end}
+use Rattle.words.specs.Storing.{Storing}
+use Rattle.words.specs.StoringLaws.{storing-start, storing-more, storing-low, storing-next, storing-end}
 use Rattle.words.proofs.to_parts.store_numbers.Statement.{statement}
 use Rattle.words.proofs.to_parts.store_numbers.Tie as tie
 
