@@ -25,7 +25,9 @@ Shared with the crates:
 - that the letters between two parts are those of a run of b and a run of a. The engine writes them so, as crates/words does; word_of below
   walks point by point, and the engine's `position` knows no word that the two write differently;
 - that a price may be added up letter by letter. The engine does, as crates/best does; `best` below holds the sum to document 01's price;
-- that a chain at a position is found from its smallest part up: here part by part, in crates/ranking letter by letter.
+- that a chain at a position is found from its smallest part up: here part by part, in crates/ranking letter by letter;
+- that K is tested only on the best chain within A and B, because fewest parts come first: `whole.filter` in the engine and the last line of
+  tests/grown.py do so, as crates/best/src/choosing.rt does. listed_best below tests K on every chain of a list.
 """
 import atexit
 import functools
