@@ -1,14 +1,16 @@
--- What the program keeps of an unfinished line from one call to the next. No contract says which bytes a read brings; these say
--- what is kept after any bytes.
+-- What the program keeps of an unfinished line from one call to the next, and what it writes. No contract says which bytes a read
+-- brings; these say what is kept after any bytes, given how many they are.
 -- Definitions only. The laws are in ConsoleLaws.
 use mathlib.Core.Path.{_≡_}
 use mathlib.Core.List.{List}
 use Prim.Native.Nat.{ℕ, _≤_}
 use lib.ListN.{length, take}
+use lib.IntN.{ℤ}
 use Rattle.lent.specs.Lent.{filled}
-use Rattle.lines.specs.Stream.{unfinished, repliesTo}
+use Rattle.lines.specs.Stream.{repliesTo}
 use Rattle.frames.specs.Replies.{replyOf}
 use Rattle.stream.specs.Answers.{Lending}
+use Rattle.io.specs.Counts.{clamped}
 
 -- The first k places of `kept` are all that it holds: behind them are zeros up to 515.
 abbrev pub Alone : List ℕ → ℕ → Type 0
@@ -26,13 +28,15 @@ pub record Holds (line kept : List ℕ) (k : ℕ) : Type 0 where
   pub most : k ≤ 515
   pub alone : Alone kept k
 
--- What is written to standard output: replies to lines, each with its byte 10, and nothing else.
+-- What is handed to the write call: replies to some lines, each with its byte 10, and nothing else.
 pub record Replies (bytes : List ℕ) : Type 0 where
   pub lines : List (List ℕ)
   pub list : bytes ≡ repliesTo replyOf lines
 
--- A read brought some first bytes of `block`, and `kept` holds what they leave unfinished, where `line` was kept before.
-pub record ReadOn (line block kept : List ℕ) (k : ℕ) : Type 0 where
-  pub read : ℕ
-  pub within : read ≤ length block
-  pub holds : Holds (unfinished line (take read block)) kept k
+-- These bytes stand first in `out`.
+abbrev pub Begins : List ℕ → List ℕ → Type 0
+Begins bytes out = take (length bytes) out ≡ bytes
+
+-- The first bytes of the block, as many as the read call answered that it brought; none where it answered a negative number.
+abbrev pub came : ℤ → List ℕ → List ℕ
+came got block = take (clamped got (length block)) block

@@ -1,7 +1,7 @@
 -- The laws of what is kept between two calls; the definitions are in Console.
 --
 -- In this order: what is kept before the first call; what one call keeps; what two calls keep together; a call to which enough is
--- lent is not refused; the first n bytes of `out` are replies.
+-- lent is not refused; the first n bytes of `out`.
 use mathlib.Core.Path.{_≡_, sym, ap, _∙_}
 use mathlib.Core.Bool.{Bool, true, false, true≢false}
 use mathlib.Core.List.{List, [], _++_, append-nil}
@@ -22,7 +22,7 @@ use Rattle.stream.specs.declared.Fed.{Fed}
 use Rattle.stream.specs.declared.Fed.the-variants as fed
 use Rattle.stream.specs.declared.Ended.{Ended}
 use Rattle.stream.specs.declared.Ended.the-variants as ended
-use Rattle.intake.specs.Console.{Alone, Holds, Replies}
+use Rattle.intake.specs.Console.{Alone, Holds, Replies, Begins}
 
 -- ---- before the first call
 
@@ -135,8 +135,13 @@ module _ (kept : List ℕ) (k : ℕ) (scratch out : List ℕ) (lent : Lending ke
         let w = end-served b line out outExit n (sym e ∙ told) o in
         (wrote-fits _ out outExit n w, what-wrote _ out outExit n w)
 
--- ---- replies
+-- ---- the first bytes of `out`
 
 pub first-replies : (n : ℕ) (out : List ℕ) (lines : List (List ℕ)) → take n out ≡ repliesTo replyOf lines
     → Replies (take (n - 0) out)
 first-replies n out lines e = record { lines = lines; list = rw sub-zero e }
+
+pub first-begins : (n : ℕ) (out bytes : List ℕ) → n ≤ length out → take n out ≡ bytes → Begins bytes out
+first-begins n out bytes h e =
+    let same : length bytes ≡ n = ap length (sym e) ∙ length-take-le n out h in
+    rw same e

@@ -6,13 +6,14 @@ use libc::STDOUT_FILENO;
 use stream::Ended;
 use stream::Fed;
 ghost use mathlib.Core.Path.{_≡_};
-ghost use mathlib.Core.Bool.{true};
+ghost use mathlib.Core.Bool.{true, false};
 ghost use Prim.Native.Nat.{_≤_, _<_};
 ghost use lib.ListN.{length, take};
+ghost use lib.IntN.{pos};
 ghost use Rattle.lines.specs.Stream.{finished, unfinished, lastLine, repliesTo};
 ghost use Rattle.frames.specs.Replies.{replyOf};
 ghost use Rattle.stream.specs.Answers.{Moves};
-ghost use Rattle.intake.specs.Console.{Ready, Holds, Replies, ReadOn};
+ghost use Rattle.intake.specs.Console.{Ready, Holds, Replies, Begins, came};
 
 // Whether a call that moved no bytes was only interrupted by a signal, and is to be tried again.
 fn was_interrupted(moved: isize) -> bool {
@@ -96,12 +97,14 @@ struct Part {
     is_put: bool,
 }
 
-// Answers as much of a block as the room for replies takes, and writes the replies.
+// Answers as much of a block as the room for replies takes, and writes the replies. They stand first in `out`.
 fn answer_part(block: &[u8], kept: &mut [u8], k: usize, scratch: &mut [u64], out: &mut [u8]) -> Part
     requires { ⌜ Ready (now kept) k (now scratch) (now out) ⌝ }
     ensures moves { λ r. ⌜ (r .used ≤ length (now (block .entry))) × (0 < length (now (block .entry)) → 0 < r .used) ⌝ }
     ensures kept { λ r. ⌜ Holds (unfinished (take k (now (kept .entry))) (take (r .used) (now (block .entry)))) (now (kept .exit))
         (r .kept) ⌝ }
+    ensures out { λ r. ⌜ Begins (repliesTo replyOf (finished (take k (now (kept .entry))) (take (r .used) (now (block .entry)))))
+        (now (out .exit)) ⌝ }
 {
     let taken = take_part(block, kept, k, scratch, out);
     let written = taken.written;
@@ -161,27 +164,32 @@ fn take_rest(kept: &[u8], k: usize, scratch: &mut [u64], out: &mut [u8]) -> usiz
     }
 }
 
-// The same, and writes the reply.
+// The same, and writes the reply. It stands first in `out`.
 fn answer_rest(kept: &[u8], k: usize, scratch: &mut [u64], out: &mut [u8])
     requires { ⌜ Ready (now kept) k (now scratch) (now out) ⌝ }
+    ensures { λ _. ⌜ Begins (repliesTo replyOf (lastLine (take k (now (kept .entry))))) (now (out .exit)) ⌝ }
 {
     let written = take_rest(kept, k, scratch, out);
     put(&out[0..written]);
 }
 
-// Reads once and answers what came. A read that was interrupted brings nothing, and the next one tries again. Where there is more
-// to read, what the bytes that came leave unfinished is kept.
-fn answer_read(
-    block: &mut [u8],
+// Answers what a read brought, given what the read call answered: the kept line at the end of the input, else all the bytes that
+// came. A read that was interrupted brings nothing, and the next one tries again; one that failed is told on standard error. Where
+// there is more to read, what the bytes that came leave unfinished is kept.
+fn answer_got(
+    got: isize,
+    block: &[u8],
     kept: &mut [u8],
     k: usize,
     scratch: &mut [u64],
     out: &mut [u8],
 ) -> Answer
     requires { ⌜ Ready (now kept) k (now scratch) (now out) ⌝ }
-    ensures { λ r. ⌜ (r .more ≡ true → ReadOn (take k (now (kept .entry))) (now (block .exit)) (now (kept .exit)) (r .kept)) ⌝ }
+    ensures end { λ r. ⌜ (got ≡ pos 0 → (r .more ≡ false)
+        × Begins (repliesTo replyOf (lastLine (take k (now (kept .entry))))) (now (out .exit))) ⌝ }
+    ensures more { λ r. ⌜ (r .more ≡ true
+        → Holds (unfinished (take k (now (kept .entry))) (came got (now (block .entry)))) (now (kept .exit)) (r .kept)) ⌝ }
 {
-    let got = libc::read(STDIN_FILENO, block);
     if got == 0 {
         answer_rest(kept, k, scratch, out);
         return Answer {
@@ -202,7 +210,8 @@ fn answer_read(
     answer_bytes(&block[0..n], kept, k, scratch, out)
 }
 
-// Answers all of the input in lent memory.
+// Answers all of the input in lent memory: reads, and answers what came, until there is no more to read. No contract can say that
+// the number which is handed on is the one that the read call answered.
 fn answer_all(block: &mut [u8], kept: &mut [u8], scratch: &mut [u64], out: &mut [u8])
     requires { ⌜ Ready (now kept) 0 (now scratch) (now out) ⌝ }
 {
@@ -210,7 +219,8 @@ fn answer_all(block: &mut [u8], kept: &mut [u8], scratch: &mut [u64], out: &mut 
     let mut turns = u64::MAX;
     while turns > 0 {
         turns -= 1;
-        let answer = answer_read(block, kept, k, scratch, out);
+        let got = libc::read(STDIN_FILENO, block);
+        let answer = answer_got(got, block, kept, k, scratch, out);
         if !answer.more {
             return;
         }

@@ -18,13 +18,15 @@ abbrev μ-loop : tie.MeasureT-loop
 loop-holds : tie.Need-loop-holds Inv-loop μ-loop
 loop-holds c = (search needs, search needs, c .before .before .before .before .pre .alone)
 
-answer-read-requires : tie.Need-answer-read-requires Inv-loop μ-loop
-answer-read-requires c κs = record { enough = search needs; alone = c .before .before .before .before .before .loop .inv .2 }
+answer-got-requires : tie.Need-answer-got-requires Inv-loop μ-loop
+answer-got-requires c κs =
+    let l = c .before .before .before .before .before .before .before .before .before in
+    record { enough = search needs; alone = l .loop .inv .2 }
 
 loop-again : tie.Need-loop-again Inv-loop μ-loop
 loop-again c =
-    let q = c .before .before .before .before .before .before .before .before .before .before in
-    let h = q .answer-read .ensures (not-false _ (c .if1 .left)) .holds in
+    let q = c .before .before .before .before .before .before .before .before in
+    let h = q .answer-got .ensures .1 (not-false _ (c .if1 .left)) in
     (search needs, search needs, h .alone)
 
 pub answer-all-spec : {M : Type 1} → statement M
@@ -35,7 +37,8 @@ answer-all-spec =
     μ-loop
     loop-holds
     (λ c. search needs)
-    answer-read-requires
+    (λ c κs. search needs)
+    answer-got-requires
     (λ c. search needs)
     (λ c. search needs)
     (λ c. search needs)

@@ -37,7 +37,7 @@ loop-again c =
     let block = l .before .before .before .before .before .args .block .now in (
       search needs,
       search needs,
-      holds-more _ block _ (l .loop .at) _ _ (q .answer-part .result .used) _ (l .loop .inv .2) (q .answer-part .ensures .1),
+      holds-more _ block _ (l .loop .at) _ _ (q .answer-part .result .used) _ (l .loop .inv .2) (q .answer-part .ensures .1 .0),
     )
 
 returns : tie.Need-returns Inv-loop μ-loop

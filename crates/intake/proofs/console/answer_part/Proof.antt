@@ -1,6 +1,6 @@
 -- `answer_part` writes as much of `out` as was told, and goes on in the block.
 use borrow.Author.Needs.{needs}
-use Rattle.intake.specs.ConsoleLaws.{first-replies}
+use Rattle.intake.specs.ConsoleLaws.{first-replies, first-begins}
 use Rattle.intake.proofs.console.answer_part.Statement.{statement}
 use Rattle.intake.proofs.console.answer_part.Tie as tie
 
@@ -16,8 +16,9 @@ put-requires c κs =
 
 returns : tie.Need-returns
 returns c =
-    let e = c .before .before .before .before .before .before .before .before .before .take-part .ensures in
-    ((e .0 .within, e .0 .some), e .1 .0)
+    let q = c .before .before .before .before .before .before .before .before .before in
+    let e = q .take-part .ensures in
+    ((e .0 .within, e .0 .some), (e .1 .0, first-begins (q .take-part .result .written) _ _ (e .0 .fits) (e .1 .1)))
 
 pub answer-part-spec : {M : Type 1} → statement M
 answer-part-spec =

@@ -1,6 +1,6 @@
--- `answer_rest` writes as much of `out` as was told.
+-- `answer_rest` writes as much of `out` as was told, which is where the reply stands.
 use borrow.Author.Needs.{needs}
-use Rattle.intake.specs.ConsoleLaws.{first-replies}
+use Rattle.intake.specs.ConsoleLaws.{first-replies, first-begins}
 use Rattle.intake.proofs.console.answer_rest.Statement.{statement}
 use Rattle.intake.proofs.console.answer_rest.Tie as tie
 
@@ -14,6 +14,12 @@ put-requires c κs =
     let q = c .before .before .before .before .before .before in
     first-replies (q .take-rest .result) _ _ (q .take-rest .ensures .1)
 
+returns : tie.Need-returns
+returns c =
+    let q = c .before .before .before .before .before .before .before in
+    let e = q .take-rest .ensures in
+    first-begins (q .take-rest .result) _ _ (e .0) (e .1)
+
 pub answer-rest-spec : {M : Type 1} → statement M
 answer-rest-spec =
     tie.close
@@ -25,4 +31,4 @@ answer-rest-spec =
     put-requires
     (λ c. search needs)
     (λ c. search needs)
-    (λ c. search needs))
+    returns)
