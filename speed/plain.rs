@@ -336,6 +336,7 @@ fn answer(ts: &Tables, line: &[u8], t: &mut Table) -> Result<String, u8> {
         values.push(match c {
             b'0'..=b'9' => c - b'0',
             b'A'..=b'F' => c - b'A' + 10,
+            b'a'..=b'f' => c - b'a' + 10,
             _ => return Err(3),
         });
     }

@@ -301,7 +301,7 @@ def reply_to(line):
     """The reply to one line of a file, given without its byte 10."""
     if len(line) == 0 or len(line) % 2 or len(line) > 514:
         return "02"
-    if not re.fullmatch(rb"[0-9A-F]*", line):
+    if not re.fullmatch(rb"[0-9A-Fa-f]*", line):
         return "03"
     data = bytes.fromhex(line.decode())
     kind, more = data[0], data[1] if len(data) > 1 else 0
@@ -377,8 +377,6 @@ def refused_file():
         yield bytes([byte]) * 2
         yield bytes([byte]) + good_line
     yield good_line + b"\r"
-    yield good_line.lower()
-    yield hexed((2, 1), (171, 8), (64, 1), (63, 1), (40, 1), (10, 2), (11, 2), (12, 2)).lower()
     for kind in (0, 7, 8, 10, 127, 128, 255):
         yield hexed((kind, 1))
         yield hexed((kind, 1), (19, 8))
@@ -387,7 +385,7 @@ def refused_file():
         for extra in range(0, 20):
             yield hexed((kind, 1)) + b"00" * extra
     # a character that is none against the length of the kind, and against each kind's own refusals
-    for text in (b"01" + b"0" * 10 + b"g0", b"02" + b"0" * 15 + b"a", b"03" + b"0" * 31 + b"a", b"0402FFFFFFF\x00", b"050104" + b"\r0"):
+    for text in (b"01" + b"0" * 10 + b"g0", b"02" + b"0" * 15 + b"G", b"03" + b"0" * 31 + b"`", b"0402FFFFFFF\x00", b"050104" + b"\r0"):
         yield text
     # 8 against 9 and 10, 9 against 10
     for numbers in ([1344, 1344], [1343, 1343], [1343, 1344], [0, 1343, 1344], [1343, 1343, 2000], [0, 1343, 1343]):
@@ -460,6 +458,20 @@ def some_lines(seed, times):
     for _ in range(times):
         text = line()
         yield damaged(text) if chance.randrange(4) == 0 else text
+
+
+def recased(text, chance):
+    """The same text, with the case of each letter A to F and a to f drawn anew."""
+    return bytes(c ^ 32 if c in b"ABCDEFabcdef" and chance.random() < 0.5 else c for c in text)
+
+
+def cased_file():
+    """Lines of every kind, good, damaged and refused, that have letters: each in capitals, in small letters and in mixed case."""
+    chance = random.Random(4)
+    last = [word_line(6, word_at(n, count(n) - 1)) for n in EDGES]
+    for line in [*some_lines(5, 400), *refused_file(), *last]:
+        if re.search(rb"[A-F]", line):
+            yield from (line.upper(), line.lower(), recased(line, chance))
 
 
 LISTING = b"""010000000000000013
@@ -813,9 +825,10 @@ def test_parts():
 @what
 @functools.cache
 def lines():
-    """Every kind for all numbers to 200; refusals; random and damaged lines; empty lines; a last line without its byte 10."""
+    """Every kind for all numbers to 200; refusals; lines in both cases; random and damaged lines; empty lines; a last line without its byte
+    10."""
     some = [b"", b"", *some_lines(1, 20000), b"", LISTING.split(b"\n")[0]]
-    return b"\n".join([*small_file(200), *refused_file(), *some])
+    return b"\n".join([*small_file(200), *refused_file(), *cased_file(), *some])
 
 
 @what

@@ -41,7 +41,8 @@
 extern "C" {
 #endif
 
-/* The reply to one line of hexadecimal, given without its byte 10: the digits that the program `intake` writes for it.
+/* The reply to one line of hexadecimal, given without its byte 10: the digits that the program `intake` writes for it. The line may
+ * have capitals A to F and small letters a to f; the reply has capitals.
  *
  * Lent: the line; the scratch, MELTSJUK_SCRATCH numbers or more; `out`, MELTSJUK_REPLY bytes or more.
  * Answers how many digits the reply has, at least 2 and at most 512. They stand in `out`, then zeros up to MELTSJUK_REPLY, so that

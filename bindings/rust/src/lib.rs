@@ -108,11 +108,13 @@ impl Terminal {
         Terminal { scratch: vec![0; SCRATCH], places: [0; PLACES], reply: [0; REPLY] }
     }
 
-    /// The reply to one line, given without its byte 10: digits. A line that cannot be served gets the two digits of its refusal.
+    /// The reply to one line, given without its byte 10: digits. A line that cannot be served gets the two digits of its refusal. The line
+    /// may have capitals A to F and small letters a to f; the reply has capitals.
     ///
     /// ```
     /// let mut terminal = meltsjuk::Terminal::new();
     /// assert_eq!(terminal.reply(b"040200090000"), "00000000000000001300000000000000030200090000");
+    /// assert_eq!(terminal.reply(b"0401000b"), "00000000000000001B000000000000000601000B");
     /// assert_eq!(terminal.reply(b"7F"), "04");
     /// ```
     pub fn reply(&mut self, line: &[u8]) -> &str {

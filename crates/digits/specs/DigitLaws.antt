@@ -1,11 +1,11 @@
 -- Theory of hexadecimal digits.
 -- In order: a range of characters; one digit; a test at every character; the number that characters stand for; the digits of a
 -- number, and what reading them back gives; digits in a buffer.
--- Only `value-decimal`, `value-capital`, `value-none` and `by-value` look at which characters are digits. Numbers rest on
--- `by-value` (a value is below 16) and `value-digitOf` (what is written is read back), and their laws hold whichever the digits
--- are.
+-- Only `value-decimal`, `value-capital`, `value-small`, `value-none` and `by-value` look at which characters are digits. Numbers rest
+-- on `by-value` (a value is below 16) and `value-digitOf` (what is written is read back), and their laws hold whichever the digits
+-- are. That the case of letters makes no difference is in CapitalLaws.
 use mathlib.Core.Path.{_≡_, refl, sym, ap, _∙_}
-use mathlib.Core.Bool.{Bool, true, false, _&&_, and-assoc, and-eq-true-iff}
+use mathlib.Core.Bool.{Bool, true, false, cond, _&&_, and-assoc, and-eq-true-iff}
 use mathlib.Core.List.{List, [], _∷_, _++_}
 use mathlib.Core.Option.{Option, none, some, Option·getD}
 use Prim.Native.Nat.{ℕ, zero, suc, _+_, _-_, _*_, _/_, _%_, _^_, _≤_, _<_}
@@ -27,13 +27,13 @@ inside : (low high c : ℕ) → low ≤ c → c ≤ high → within low high c �
 unfolding within
 inside low high c h k = rw (le-leb low c, le-leb c high)
 
-ends : (low high c : ℕ) → within low high c ≡ true → (low ≤ c) × (c ≤ high)
+pub ends : (low high c : ℕ) → within low high c ≡ true → (low ≤ c) × (c ≤ high)
 unfolding within
 ends low high c e =
     let r = and-eq-true-iff (leb low c) (leb c high) .0 e in
     (leb-true low c (r .0), leb-true c high (r .1))
 
-outside : (low high c : ℕ) → (low ≤ c → c ≤ high → ⊥) → within low high c ≡ false
+pub outside : (low high c : ℕ) → (low ≤ c → c ≤ high → ⊥) → within low high c ≡ false
 outside low high c h = go (within low high c) refl
   where
     go : (b : Bool) → within low high c ≡ b → within low high c ≡ false
@@ -45,28 +45,33 @@ outside low high c h = go (within low high c) refl
 -- The characters that are digits, and the others.
 pub value-decimal : (c : ℕ) → 48 ≤ c → c ≤ 57 → digitValue c ≡ some (c - 48)
 unfolding digitValue
-value-decimal c h k = rw (inside 48 57 c, digitValue)
+value-decimal c h k = rw (inside 48 57 c)
 
 pub value-capital : (c : ℕ) → 65 ≤ c → c ≤ 70 → digitValue c ≡ some (c - 55)
 unfolding digitValue
-value-capital c h k = rw (outside 48 57 c (λ l m. omega arith), inside 65 70 c, digitValue)
+value-capital c h k = rw (outside 48 57 c (λ l m. omega arith), inside 65 70 c)
 
-pub value-none : (c : ℕ) → (48 ≤ c → c ≤ 57 → ⊥) → (65 ≤ c → c ≤ 70 → ⊥) → digitValue c ≡ none
+pub value-small : (c : ℕ) → 97 ≤ c → c ≤ 102 → digitValue c ≡ some (c - 87)
 unfolding digitValue
-value-none c h k = rw (outside 48 57 c h, outside 65 70 c k, digitValue)
+value-small c h k = rw (outside 48 57 c (λ l m. omega arith), outside 65 70 c (λ l m. omega arith), inside 97 102 c)
+
+pub value-none : (c : ℕ) → (48 ≤ c → c ≤ 57 → ⊥) → (65 ≤ c → c ≤ 70 → ⊥) → (97 ≤ c → c ≤ 102 → ⊥) → digitValue c ≡ none
+unfolding digitValue
+value-none c h k l = rw (outside 48 57 c h, outside 65 70 c k, outside 97 102 c l)
 
 -- What holds of every value below 16, and of none, holds of a character's value.
 pub by-value : (P : Option ℕ → Type 0) → ((v : ℕ) → v < 16 → P (some v)) → P none → (c : ℕ) → P (digitValue c)
 unfolding digitValue
-by-value P digit other c = decimal (within 48 57 c) refl
+by-value P digit other c =
+    in-range 48 57 48 (omega arith) _ (in-range 65 70 55 (omega arith) _ (in-range 97 102 87 (omega arith) none other))
   where
-    capital : (b : Bool) → within 65 70 c ≡ b → within 48 57 c ≡ false → P (digitValue c)
-    capital true e f = rw (f, e, digitValue) (digit (c - 55) (omega (arith, ends 65 70 c e)))
-    capital false e f = rw (f, e, digitValue) other
-
-    decimal : (b : Bool) → within 48 57 c ≡ b → P (digitValue c)
-    decimal true e = rw (e, digitValue) (digit (c - 48) (omega (arith, ends 48 57 c e)))
-    decimal false e = capital (within 65 70 c) refl e
+    -- A character of the range is worth its distance from `from`; o stands for the value of the others.
+    in-range : (low high from : ℕ) → high < from + 16 → (o : Option ℕ) → P o → P (cond (within low high c) (some (c - from)) o)
+    in-range low high from few o p = go (within low high c) refl
+      where
+        go : (b : Bool) → within low high c ≡ b → P (cond b (some (c - from)) o)
+        go true e = digit (c - from) (omega (arith, ends low high c e))
+        go false e = p
 
 pub value-below : (c : ℕ) → valueOr0 c < 16
 unfolding valueOr0

@@ -1,8 +1,10 @@
--- Hexadecimal: document 01, 'Frames'. A character is a byte; the digits are 0 to 9 and A to F; values of several digits stand
--- highest first.
--- Definitions only; that digits read back give the number is in DigitLaws.
-use mathlib.Core.Bool.{Bool, true, false, _&&_, _||_}
-use mathlib.Core.List.{List, [], _∷_, _++_}
+-- Hexadecimal: document 01, 'Frames', and document 02, T-01. A character is a byte. The digits that are read are 0 to 9, A to F and a
+-- to f; those that are written are 0 to 9 and A to F. Values of several digits stand highest first.
+--
+-- In this order: one digit; numbers; a text in capitals.
+-- Definitions only. That digits read back give the number is in DigitLaws; that capitals stand for the same is in CapitalLaws.
+use mathlib.Core.Bool.{Bool, true, false, cond, _&&_, _||_}
+use mathlib.Core.List.{List, [], _∷_, _++_, map}
 use mathlib.Core.Option.{Option, none, some, Option·getD}
 use Prim.Native.Nat.{ℕ, zero, suc, _+_, _-_, _*_, _/_, _%_}
 use lib.Dec.{leb, ltb}
@@ -14,11 +16,13 @@ use lib.ListN.{length, drop}
 unfoldable pub within : ℕ → ℕ → ℕ → Bool
 within low high c = leb low c && leb c high
 
--- The value of a character, and none where it is no digit: '0' is 48, 'A' is 65. Nothing else says which characters are
--- digits.
+-- The value of a character, and none where it is no digit: '0' is 48, 'A' is 65, 'a' is 97, and a small letter is worth what its
+-- capital is. Nothing else says which characters are digits.
 unfoldable pub digitValue : ℕ → Option ℕ
 digitValue c =
-    elim (within 48 57 c) [ true ↦ some (c - 48) | false ↦ elim (within 65 70 c) [ true ↦ some (c - 55) | false ↦ none ] ]
+    cond (within 48 57 c) (some (c - 48))
+    (cond (within 65 70 c) (some (c - 55))
+    (cond (within 97 102 c) (some (c - 87)) none))
 
 unfoldable pub isSome : Option ℕ → Bool
 isSome none = false
@@ -67,3 +71,13 @@ digitsOf (suc k) n = digitsOf k (n / 16) ++ (digitOf (n % 16) ∷ [])
 -- What is left in a buffer after the last k digits of n are written at its start: the buffer itself where it has no room for them.
 unfoldable pub putDigits : ℕ → ℕ → List ℕ → List ℕ
 putDigits k n out = elim (leb k (length out)) [ true ↦ digitsOf k n ++ drop k out | false ↦ out ]
+
+-- ---- a text in capitals
+
+-- A small letter a to f as its capital, any other character as it is.
+unfoldable pub capital : ℕ → ℕ
+capital c = cond (within 97 102 c) (c - 32) c
+
+-- The same at every character of a line or a file.
+abbrev pub capitals : List ℕ → List ℕ
+capitals s = map capital s

@@ -1,22 +1,26 @@
-// Hexadecimal digits and numbers on slices of characters: document 01, 'Frames'. Every function here takes any input.
+// Hexadecimal digits and numbers on slices of characters: document 01, 'Frames', and document 02, T-01. Every function here takes any
+// input.
 ghost use mathlib.Core.Path.{_≡_};
+ghost use mathlib.Core.Bool.{_&&_};
 ghost use mathlib.Core.Option.{Option·getD};
 ghost use Prim.Native.Nat.{_%_, _^_};
 ghost use Rattle.digits.specs.Digits.{digitValue, isDigit, valueOr0, allDigits, numberOf, digitOf, putDigits};
 
 // The value of a character, and 255 where it is no digit: nothing else in the code says which characters are digits. A
-// character below a range wraps to a large difference, so one test looks at both ends of the range, and no jump depends on which
-// digit it is.
+// character below a range wraps to a large difference, so one test looks at both ends of the range. A capital and its small letter
+// differ in bit 5 alone, so with that bit set one range holds both. With the letters first, the compiler makes no jump that depends
+// on which digit it is.
 fn value_or_255(c: u8) -> u8
     ensures { λ r. ⌜ r ≡ Option·getD (digitValue c) 255 ⌝ }
 {
+    let small = c | 32;
+    let letter = std::num::wrapping_sub_u8(small, 97);
+    if letter < 6 {
+        return letter + 10;
+    }
     let decimal = std::num::wrapping_sub_u8(c, 48);
     if decimal < 10 {
         return decimal;
-    }
-    let capital = std::num::wrapping_sub_u8(c, 65);
-    if capital < 6 {
-        return capital + 10;
     }
     255
 }
@@ -39,18 +43,25 @@ pub fn digit_value(c: u8) -> u64
     0
 }
 
-// Whether every character of a line is a digit.
+// Whether both hold.
+fn both(a: bool, b: bool) -> bool
+    ensures { λ r. ⌜ r ≡ a && b ⌝ }
+{
+    if a { b } else { false }
+}
+
+// Whether every character of a line is a digit. The loop does not stop at a character that is none: then no jump depends on the
+// characters, and the compiler looks at 16 of them at once.
 pub fn all_digits(line: &[u8]) -> bool
     ensures { λ r. ⌜ r ≡ allDigits (now (line .entry)) ⌝ }
 {
+    let mut all = true;
     let mut i = 0;
     while i < line.len() {
-        if !is_digit(line[i]) {
-            return false;
-        }
+        all = both(all, is_digit(line[i]));
         i += 1;
     }
-    true
+    all
 }
 
 // The number that the characters stand for, highest digit first, modulo 2^64: the number itself where they are at most 16. The

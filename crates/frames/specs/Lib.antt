@@ -5,6 +5,7 @@
 --   ServedLaws   the replies to fit lines: the one law that goes kind by kind
 --   ReplyLaws    515 characters; every reply is a frame; a chain's reply read back
 --   Refusals     which numbers a line is refused with, kind by kind
+--   CaseBlind    the case of letters makes no difference to a reply, and replies keep capitals
 --   LineTrips    demand 2, line by line
 --   BestLines    demand 3, line by line
 --   Put, Calls   what the functions inside this crate ask for and leave; PutLaws is the theory of digits put one after the other
@@ -15,6 +16,7 @@ pub mod ReadBack
 pub mod ServedLaws
 pub mod ReplyLaws
 pub mod Refusals
+pub mod CaseBlind
 pub mod LineTrips
 pub mod BestLines
 pub mod Put

@@ -1,20 +1,21 @@
 -- Which numbers a line can be refused with, by its shape and kind by kind (`reply-refusals`). So it is refused with 2 to 11 only
--- (`reply-refusal`): 1 is for too little lent, and 12 for the plain count, which no line asks for.
-use mathlib.Core.Path.{_≡_, refl, subst}
-use mathlib.Core.Logic.{_⊎_, inl, inr, ⊎-elim}
-use mathlib.Core.Bool.{Bool, true, false, cond, _&&_, and-eq-true-iff}
+-- (`reply-refusal`): 1 is for too little lent, and 12 for the plain count, which no line asks for. It is refused with 3 exactly where
+-- a character is no digit (`reply-no-digit`).
+use mathlib.Core.Path.{_≡_, refl, ap, subst, _∙_}
+use mathlib.Core.Logic.{_↔_, _⊎_, inl, inr, ⊎-elim}
+use mathlib.Core.Bool.{Bool, true, false, not, cond, _&&_, and-eq-true-iff}
 use mathlib.Core.List.{List, [], _∷_}
 use mathlib.Core.Option.{Option, none, some}
 use Prim.Native.Nat.{ℕ, _*_, _≤_}
 use native.Mathlib.Omega.{arith}
-use borrow.Author.Tests.{leb-true, eqb-true}
+use borrow.Author.Tests.{leb-true, eqb-true, not-true}
 use lib.Dec.{T, leb, eqb}
 use lib.ListN.{length}
 use Rattle.digits.specs.Digits.{every, allDigits}
 use Rattle.lines.specs.Kinds.{Kind, kinds, kindOf}
-use Rattle.lines.specs.Lines.{Shape, unfit, fit, field, bytesIn, badLength, shapeOfKind, shapeOf}
-use Rattle.lines.specs.LineLaws.{passes, each-kind}
-use Rattle.frames.specs.Replies.{refusedAs, replyRowOf, refusalsOf, replyByShape, replyTo}
+use Rattle.lines.specs.Lines.{Shape, unfit, fit, field, bytesIn, badLength, Proper, shapeOfKind, shapeOf}
+use Rattle.lines.specs.LineLaws.{passes, each-kind, no-digit}
+use Rattle.frames.specs.Replies.{refusedAs, served, replyRowOf, refusalsOf, replyByShape, replyTo}
 use Rattle.frames.specs.ServedLaws.{among, ReplyIn, made}
 
 -- A line that is not fit: its length, a character, its kind.
@@ -81,3 +82,20 @@ reply-refusal line r e =
     (λ (f : (k : Kind) × (shapeOf line ≡ fit k) × T (among r (refusalsOf k))).
     among-of-lines r (refusalsOf (f .0)) (each-kind (λ (k : Kind). every isOfLines (refusalsOf k)) refl (f .0)) (f .2))
     (reply-refusals line r e)
+
+-- No fit line is refused with 3. So a line gets 3 exactly if its length is proper and some character is no digit.
+pub reply-no-digit : (line : List ℕ) → (replyTo line ≡ refusedAs 3) ↔ (Proper (length line) × (allDigits line ≡ false))
+unfolding replyTo replyByShape replyRowOf among passes kinds
+reply-no-digit line = (there, λ h. rw (no-digit line .1 h))
+  where
+    not-fit : (k : Kind) → served k line ≡ refusedAs 3 → ⊥
+    not-fit k e =
+        let never = not-true (among 3 (refusalsOf k)) (each-kind (λ (j : Kind). not (among 3 (refusalsOf j))) refl k) in
+        rw never at (subst (ReplyIn (refusalsOf k)) e (made k line .refusal))
+
+    there : replyTo line ≡ refusedAs 3 → Proper (length line) × (allDigits line ≡ false)
+    there e = go (shapeOf line) refl
+      where
+        go : (s : Shape) → shapeOf line ≡ s → Proper (length line) × (allDigits line ≡ false)
+        go (unfit r) g = let same : r ≡ 3 = cc (rw g at e) in no-digit line .0 (g ∙ ap unfit same)
+        go (fit k) g = absurd (not-fit k (rw g at e))

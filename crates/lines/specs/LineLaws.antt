@@ -2,7 +2,8 @@
 -- In order: one field; several fields; kinds and their bytes; lengths; which lines are refused, and which are fit; the answer for a
 -- shape; a line's first 515 characters; reading the items of a line.
 use mathlib.Core.Path.{_≡_, refl, sym, ap, _∙_}
-use mathlib.Core.Bool.{Bool, true, false, _&&_, _||_, or-true, and-eq-true-iff}
+use mathlib.Core.Logic.{_↔_}
+use mathlib.Core.Bool.{Bool, true, false, cond, _&&_, _||_, or-true, and-eq-true-iff}
 use mathlib.Core.List.{List, [], _∷_, _++_}
 use mathlib.Core.Option.{Option, none, some}
 use Prim.Native.Nat.{ℕ, zero, suc, _+_, _*_, _-_, _%_, _^_, _≤_, _<_}
@@ -260,6 +261,30 @@ fit-line line k e = go (badLength (length line)) refl
     go : (b : Bool) → badLength (length line) ≡ b → Fit line k
     go true h = absurd (not-unfit 2 (unfit-length line h))
     go false h = with-digits (length-proper (length line) h) (allDigits line) refl
+
+-- A line gets 3 exactly if its length is proper and some character is no digit.
+pub no-digit : (line : List ℕ) → (shapeOf line ≡ unfit 3) ↔ (Proper (length line) × (allDigits line ≡ false))
+unfolding shapeOfKind
+no-digit line = (there, λ h. unfit-character line (h .0) (h .1))
+  where
+    by-length : (k : Kind) (b : Bool) → cond b (fit k) (unfit 2) ≡ unfit 3 → ⊥
+    by-length k true e = let z : _≡_ {A = ℕ} 0 1 = cc in omega arith
+    by-length k false e = let z : _≡_ {A = ℕ} 2 3 = cc in omega arith
+
+    by-kind : (o : Option Kind) → shapeOfKind line o ≡ unfit 3 → ⊥
+    by-kind none e = let z : _≡_ {A = ℕ} 4 3 = cc in omega arith
+    by-kind (some k) e = by-length k (eqb (length line) (2 * bytesIn k line)) e
+
+    with-length : shapeOf line ≡ unfit 3 → Proper (length line) → (b : Bool) → allDigits line ≡ b → allDigits line ≡ false
+    with-length e p true d = absurd (by-kind (kindOf (field line 0 1)) (sym (shape-kind line p d) ∙ e))
+    with-length e p false d = d
+
+    there : shapeOf line ≡ unfit 3 → Proper (length line) × (allDigits line ≡ false)
+    there e = go (badLength (length line)) refl
+      where
+        go : (b : Bool) → badLength (length line) ≡ b → Proper (length line) × (allDigits line ≡ false)
+        go true h = let u = unfit-length line h in let z : _≡_ {A = ℕ} 2 3 = cc in absurd (omega arith)
+        go false h = let p = length-proper (length line) h in (p, with-length e p (allDigits line) refl)
 
 -- ---- the answer for a shape
 

@@ -1,12 +1,11 @@
--- `all_digits` answers whether every character is a digit: as long as all so far are, the answer is that of the characters from i
--- on. The measure is what is left of the line.
+-- `all_digits` answers whether every character is a digit: whether all so far are, together with the characters from i on. The
+-- measure is what is left of the line.
 use mathlib.Core.Path.{_≡_, sym, _∙_}
-use mathlib.Core.Bool.{Bool, true, false, _&&_}
+use mathlib.Core.Bool.{Bool, _&&_, and-assoc, and-true}
 use mathlib.Core.List.{List}
 use Prim.Native.Nat.{ℕ, _+_, _-_, _≤_, _<_}
 use native.Mathlib.Omega.{arith}
 use borrow.Author.Needs.{needs}
-use borrow.Author.Tests.{not-true, not-false}
 use lib.ListN.{length, getD, drop, drop-of-length-le}
 use Rattle.digits.specs.Digits.{isDigit, every, allDigits}
 use Rattle.digits.specs.DigitLaws.{every-from}
@@ -14,37 +13,30 @@ use Rattle.digits.proofs.all_digits.Statement.{statement}
 use Rattle.digits.proofs.all_digits.Tie as tie
 
 abbrev Inv-loop : tie.InvT-loop
-Inv-loop line i₀ i = (i ≤ length line) × (allDigits line ≡ allDigits (drop i line))
+Inv-loop line all₀ i₀ all i = (i ≤ length line) × (allDigits line ≡ all && allDigits (drop i line))
 
 abbrev μ-loop : tie.MeasureT-loop
-μ-loop line i₀ i = length line - i
+μ-loop line all₀ i₀ all i = length line - i
 
--- The answer once the character at i is looked at.
-next : (s : List ℕ) (i : ℕ) (b : Bool) → i < length s → b ≡ isDigit (getD s i 0) → allDigits s ≡ allDigits (drop i s)
-    → allDigits s ≡ b && allDigits (drop (i + 1) s)
-next s i b h d e = e ∙ rw (every-from isDigit s i h, d)
+-- The character at i is looked at too.
+next : (s : List ℕ) (i : ℕ) (all one more : Bool) → i < length s → one ≡ isDigit (getD s i 0) → more ≡ all && one
+    → allDigits s ≡ all && allDigits (drop i s) → allDigits s ≡ more && allDigits (drop (i + 1) s)
+next s i all one more h d m e = e ∙ rw (every-from isDigit s i h, m, d, and-assoc)
 
-returns : tie.Need-returns Inv-loop μ-loop
-returns c =
-    sym
-    (next _ _ false (omega arith)
-    (sym (not-true _ (c .if1 .taken)) ∙ c .before .is-digit .ensures)
-    (c .before .before .before .before .loop .inv .1))
+-- No character is left.
+all-seen : (s : List ℕ) (i : ℕ) (all : Bool) → length s ≤ i → allDigits s ≡ all && allDigits (drop i s) → all ≡ allDigits s
+unfolding every
+all-seen s i all h e = sym (e ∙ rw (drop-of-length-le s h) (and-true all))
 
 loop-again : tie.Need-loop-again Inv-loop μ-loop
 loop-again c = (
   search needs,
-  next _ _ true (omega arith)
-      (sym (not-false _ (c .if1 .left)) ∙ c .before .is-digit .ensures)
+  next _ _ (c .before .before .before .before .loop .all) _ _ (omega arith) (c .before .is-digit .ensures) (c .both .ensures)
       (c .before .before .before .before .loop .inv .1),
 )
 
-returns-2 : tie.Need-returns-2 Inv-loop μ-loop
-unfolding every
-returns-2 c =
-    sym
-    (c .before .loop .inv .1
-    ∙ rw (drop-of-length-le (c .before .before .before .args .line .now) {i = c .before .loop .i} (omega arith)))
+returns : tie.Need-returns Inv-loop μ-loop
+returns c = all-seen _ (c .before .loop .i) _ (omega arith) (c .before .loop .inv .1)
 
 pub all-digits-spec : {M : Type 1} → statement M
 all-digits-spec =
@@ -55,8 +47,8 @@ all-digits-spec =
     (λ c. search needs)
     (λ c. search needs)
     (λ c κs. search needs)
-    returns
+    (λ c κs. search needs)
     (λ c. search needs)
     (λ c. search needs)
     loop-again
-    returns-2)
+    returns)
