@@ -1,5 +1,5 @@
--- The case of letters makes no difference to what characters stand for (document 02, T-01): a text and the same text in capitals
--- have the same digits and the same numbers. All rests on one law of one character, `value-of-capital`.
+-- The case of the letters a to f makes no difference to what characters stand for (document 02, T-01): a text and the same text in
+-- capitals have the same digits and the same numbers, by one law of one character, `value-of-capital`.
 --
 -- In this order: one character; a text.
 use mathlib.Core.Path.{_≡_, refl, sym, ap, _∙_}
@@ -8,11 +8,33 @@ use mathlib.Core.List.{List, [], _∷_}
 use mathlib.Core.Option.{Option, some, Option·getD}
 use Prim.Native.Nat.{ℕ, _+_, _-_, _*_, _≤_}
 use native.Mathlib.Omega.{arith}
-use Rattle.digits.specs.Digits.{within, digitValue, isSome, isDigit, valueOr0, isWritten, every, allDigits, readFrom, numberOf}
-use Rattle.digits.specs.Digits.{capital, capitals}
-use Rattle.digits.specs.DigitLaws.{ends, outside, value-capital, value-small}
+use Rattle.digits.specs.Digits.{within, digitValue, isSome, isDigit, valueOr0, digitOf, isWritten, every, allDigits, readFrom}
+use Rattle.digits.specs.Digits.{numberOf, capital, capitals}
+use Rattle.digits.specs.DigitLaws.{inside, ends, outside, value-capital, value-small, by-range, digit-decimal, digit-capital}
 
 -- ---- one character
+
+capital-small : (c : ℕ) → 97 ≤ c → c ≤ 102 → capital c ≡ c - 32
+unfolding capital
+capital-small c l h = rw (inside 97 102 c)
+
+capital-same : (c : ℕ) → (97 ≤ c → c ≤ 102 → ⊥) → capital c ≡ c
+unfolding capital
+capital-same c h = rw (outside 97 102 c h)
+
+-- The capital of a digit is what is written for its value, and no other character changes. These two laws leave no other `capital`.
+pub capital-of-digit : (c : ℕ) → isDigit c ≡ true → capital c ≡ digitOf (valueOr0 c)
+unfolding isDigit isSome valueOr0
+capital-of-digit c =
+    by-range (λ (o : Option ℕ). isSome o ≡ true → capital c ≡ digitOf (Option·getD o 0)) c
+    (λ l h d. capital-same c (λ k m. omega arith) ∙ omega (arith, digit-decimal (c - 48) (omega arith)))
+    (λ l h d. capital-same c (λ k m. omega arith) ∙ omega (arith, digit-capital (c - 55) (omega arith)))
+    (λ l h d. capital-small c l h ∙ omega (arith, digit-capital (c - 87) (omega arith)))
+    (λ d. absurd (false≢true d))
+
+pub capital-of-other : (c : ℕ) → isDigit c ≡ false → capital c ≡ c
+unfolding isDigit isSome
+capital-of-other c d = capital-same c (λ l h. false≢true (sym d ∙ rw (value-small c l h)))
 
 -- What holds of the capital of a small letter, and of a character as it is, holds of `capital`.
 pub by-capital : (P : ℕ → Type 0) (c : ℕ) → (97 ≤ c → c ≤ 102 → P (c - 32)) → P c → P (capital c)
@@ -38,9 +60,8 @@ value-or-0-of-capital c = ap (λ (o : Option ℕ). Option·getD o 0) (value-of-c
 written-capital : (c : ℕ) → isWritten c ≡ true → capital c ≡ c
 unfolding isWritten
 written-capital c w =
-    by-capital (λ (d : ℕ). d ≡ c) c
-    (λ l h. absurd (false≢true (rw (outside 48 57 c (λ k m. omega arith), outside 65 70 c (λ k m. omega arith)) at w)))
-    refl
+    capital-same c
+    (λ l h. false≢true (rw (outside 48 57 c (λ k m. omega arith), outside 65 70 c (λ k m. omega arith)) at w))
 
 -- ---- a text
 

@@ -1,9 +1,9 @@
 -- Theory of hexadecimal digits.
 -- In order: a range of characters; one digit; a test at every character; the number that characters stand for; the digits of a
 -- number, and what reading them back gives; digits in a buffer.
--- Only `value-decimal`, `value-capital`, `value-small`, `value-none` and `by-value` look at which characters are digits. Numbers rest
--- on `by-value` (a value is below 16) and `value-digitOf` (what is written is read back), and their laws hold whichever the digits
--- are. That the case of letters makes no difference is in CapitalLaws.
+-- Only `value-decimal`, `value-capital`, `value-small`, `value-none` and `by-range` look at which characters are digits. Numbers
+-- rest on `by-value` (a value is below 16) and `value-digitOf` (what is written is read back), and their laws hold whichever the
+-- digits are. That the case of letters makes no difference is in CapitalLaws.
 use mathlib.Core.Path.{_≡_, refl, sym, ap, _∙_}
 use mathlib.Core.Bool.{Bool, true, false, cond, _&&_, and-assoc, and-eq-true-iff}
 use mathlib.Core.List.{List, [], _∷_, _++_}
@@ -23,7 +23,7 @@ use Rattle.digits.specs.Digits.{numberOf, digitsOf, putDigits}
 
 -- ---- a range of characters
 
-inside : (low high c : ℕ) → low ≤ c → c ≤ high → within low high c ≡ true
+pub inside : (low high c : ℕ) → low ≤ c → c ≤ high → within low high c ≡ true
 unfolding within
 inside low high c h k = rw (le-leb low c, le-leb c high)
 
@@ -59,19 +59,28 @@ pub value-none : (c : ℕ) → (48 ≤ c → c ≤ 57 → ⊥) → (65 ≤ c →
 unfolding digitValue
 value-none c h k l = rw (outside 48 57 c h, outside 65 70 c k, outside 97 102 c l)
 
--- What holds of every value below 16, and of none, holds of a character's value.
-pub by-value : (P : Option ℕ → Type 0) → ((v : ℕ) → v < 16 → P (some v)) → P none → (c : ℕ) → P (digitValue c)
+-- What holds of the value in each range, and of none, holds of a character's value.
+pub by-range : (P : Option ℕ → Type 0) (c : ℕ) → (48 ≤ c → c ≤ 57 → P (some (c - 48))) → (65 ≤ c → c ≤ 70 → P (some (c - 55)))
+    → (97 ≤ c → c ≤ 102 → P (some (c - 87))) → P none → P (digitValue c)
 unfolding digitValue
-by-value P digit other c =
-    in-range 48 57 48 (omega arith) _ (in-range 65 70 55 (omega arith) _ (in-range 97 102 87 (omega arith) none other))
+by-range P c decimal capital small other =
+    in-range 48 57 decimal (in-range 65 70 capital (in-range 97 102 small other))
   where
-    -- A character of the range is worth its distance from `from`; o stands for the value of the others.
-    in-range : (low high from : ℕ) → high < from + 16 → (o : Option ℕ) → P o → P (cond (within low high c) (some (c - from)) o)
-    in-range low high from few o p = go (within low high c) refl
+    in-range : (low high : ℕ) {o p : Option ℕ} → (low ≤ c → c ≤ high → P o) → P p → P (cond (within low high c) o p)
+    in-range low high {o} {p} inner outer = go (within low high c) refl
       where
-        go : (b : Bool) → within low high c ≡ b → P (cond b (some (c - from)) o)
-        go true e = digit (c - from) (omega (arith, ends low high c e))
-        go false e = p
+        go : (b : Bool) → within low high c ≡ b → P (cond b o p)
+        go true e = inner (ends low high c e .0) (ends low high c e .1)
+        go false e = outer
+
+-- So does what holds of every value below 16, and of none.
+pub by-value : (P : Option ℕ → Type 0) → ((v : ℕ) → v < 16 → P (some v)) → P none → (c : ℕ) → P (digitValue c)
+by-value P digit other c =
+    by-range P c
+    (λ l h. digit (c - 48) (omega arith))
+    (λ l h. digit (c - 55) (omega arith))
+    (λ l h. digit (c - 87) (omega arith))
+    other
 
 pub value-below : (c : ℕ) → valueOr0 c < 16
 unfolding valueOr0

@@ -1,5 +1,5 @@
--- Hexadecimal: document 01, 'Frames', and document 02, T-01. A character is a byte. The digits that are read are 0 to 9, A to F and a
--- to f; those that are written are 0 to 9 and A to F. Values of several digits stand highest first.
+-- Hexadecimal: document 01, 'Frames', and document 02, T-01. A character is a byte. The digits that are read are 0 to 9, A to F and
+-- a to f; those that are written are 0 to 9 and A to F. Values of several digits stand highest first.
 --
 -- In this order: one digit; numbers; a text in capitals.
 -- Definitions only. That digits read back give the number is in DigitLaws; that capitals stand for the same is in CapitalLaws.

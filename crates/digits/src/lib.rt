@@ -1,7 +1,6 @@
-// Hexadecimal digits and numbers on slices of characters: document 01, 'Frames', and document 02, T-01. Every function here takes any
-// input.
+// Hexadecimal digits and numbers on slices of characters: document 01, 'Frames', and document 02, T-01. Every function here takes
+// any input.
 ghost use mathlib.Core.Path.{_≡_};
-ghost use mathlib.Core.Bool.{_&&_};
 ghost use mathlib.Core.Option.{Option·getD};
 ghost use Prim.Native.Nat.{_%_, _^_};
 ghost use Rattle.digits.specs.Digits.{digitValue, isDigit, valueOr0, allDigits, numberOf, digitOf, putDigits};
@@ -43,13 +42,6 @@ pub fn digit_value(c: u8) -> u64
     0
 }
 
-// Whether both hold.
-fn both(a: bool, b: bool) -> bool
-    ensures { λ r. ⌜ r ≡ a && b ⌝ }
-{
-    if a { b } else { false }
-}
-
 // Whether every character of a line is a digit. The loop does not stop at a character that is none: then no jump depends on the
 // characters, and the compiler looks at 16 of them at once.
 pub fn all_digits(line: &[u8]) -> bool
@@ -58,7 +50,7 @@ pub fn all_digits(line: &[u8]) -> bool
     let mut all = true;
     let mut i = 0;
     while i < line.len() {
-        all = both(all, is_digit(line[i]));
+        all = all & is_digit(line[i]);
         i += 1;
     }
     all

@@ -1,12 +1,12 @@
 -- Small letters (document 02, T-01): the case of a line's letters makes no difference to its reply, and replies keep capitals.
 --
--- In this order: the reply to a line (`case-blind`), and to two lines that differ in case alone (`same-but-for-case`); a call of
--- `reply` (`call-case-blind`); the characters of a reply (`reply-written`). Whole files are in the crate stream, CaseBlind.
+-- In this order: the reply to a line (`case-blind`), and to two lines that differ only in the case of letters a to f
+-- (`same-but-for-case`); a call of `reply`; the characters of a reply (`reply-written`). A line with another letter gets 2 or 3 by
+-- its length, whichever case the letter has (`other-character` in Refusals). Whole files are in the crate stream, CaseBlind.
 use mathlib.Core.Path.{_≡_, refl, sym, ap, _∙_}
 use mathlib.Core.Bool.{Bool, true, false}
 use mathlib.Core.List.{List}
 use Prim.Native.Nat.{ℕ}
-use Rattle.lent.specs.Lent.{tooLittle, scratchLeft}
 use Rattle.digits.specs.Digits.{isWritten, every, capitals}
 use Rattle.digits.specs.CapitalLaws.{capitals-written}
 use Rattle.lines.specs.Kinds.{Kind, count-line, best-line, at-line, record-line, word-line, next-line}
@@ -15,7 +15,6 @@ use Rattle.lines.specs.CapitalLaws.{field-of-capitals, items-of-capitals, shape
 use Rattle.frames.specs.Replies.{digitsIn, limitsIn, pricesIn, served, replyByShape, replyTo, replyOf, repliedOf}
 use Rattle.frames.specs.Replies.{answerTo, outLeft}
 use Rattle.frames.specs.ReplyLaws.{reply-frame}
-use Rattle.frames.specs.declared.Replied.{Replied}
 
 -- ---- the reply to a line
 
@@ -29,7 +28,7 @@ served-of-capitals record-line line = simp (items-of-capitals line)
 served-of-capitals word-line line = simp (items-of-capitals line)
 served-of-capitals next-line line = simp (items-of-capitals line)
 
--- A line and the same line with its small letters a to f as capitals get the same reply.
+-- A line and the same line with its small letters a to f as capitals get the same reply, and it has the same digits.
 pub case-blind : (line : List ℕ) → replyTo (capitals line) ≡ replyTo line
 unfolding replyTo replyByShape
 case-blind line = rw (shape-of-capitals line) (go (shapeOf line))
@@ -38,41 +37,26 @@ case-blind line = rw (shape-of-capitals line) (go (shapeOf line))
     go (unfit r) = refl
     go (fit k) = served-of-capitals k line
 
--- So do two lines that differ in the case of letters alone.
-pub same-but-for-case : (a b : List ℕ) → capitals a ≡ capitals b → replyTo a ≡ replyTo b
-same-but-for-case a b e = sym (case-blind a) ∙ ap replyTo e ∙ case-blind b
-
 pub digits-case-blind : (line : List ℕ) → replyOf (capitals line) ≡ replyOf line
 unfolding replyOf
 digits-case-blind line = ap digitsIn (case-blind line)
 
+-- So do two lines that differ only in the case of letters a to f.
+pub same-but-for-case : (a b : List ℕ) → capitals a ≡ capitals b → replyTo a ≡ replyTo b
+same-but-for-case a b e = sym (case-blind a) ∙ ap replyTo e ∙ case-blind b
+
 -- ---- a call of `reply`
 
--- What its contract says: the answer, and what is left in the bytes for the reply and in the scratch.
-pub record Called (line scratch out : List ℕ) (r : Replied) (scratchExit outExit : List ℕ) : Type 0 where
-  pub answer : r ≡ answerTo (tooLittle 514 scratch out) line
-  pub reply : outExit ≡ outLeft (tooLittle 514 scratch out) line out
-  pub zeroed : scratchExit ≡ scratchLeft (tooLittle 514 scratch out) scratch
-
-answer-of-capitals : (little : Bool) (line : List ℕ) → answerTo little (capitals line) ≡ answerTo little line
+-- By its contract the line decides the answer and what is left in the bytes for the reply. Both are the same for the line in
+-- capitals. What is left in the scratch does not depend on the line (`scratchLeft`).
+pub answer-case-blind : (little : Bool) (line : List ℕ) → answerTo little (capitals line) ≡ answerTo little line
 unfolding answerTo
-answer-of-capitals true line = refl
-answer-of-capitals false line = ap repliedOf (case-blind line)
+answer-case-blind true line = refl
+answer-case-blind false line = ap repliedOf (case-blind line)
 
-out-of-capitals : (little : Bool) (line entry : List ℕ) → outLeft little (capitals line) entry ≡ outLeft little line entry
+pub left-case-blind : (little : Bool) (line entry : List ℕ) → outLeft little (capitals line) entry ≡ outLeft little line entry
 unfolding outLeft
-out-of-capitals little line entry = rw (digits-case-blind line)
-
--- Two calls that are lent the same, one on a line and one on the line in capitals, answer the same and leave the same.
-pub call-case-blind : (line scratch out : List ℕ) {scratchExit outExit scratchExit′ outExit′ : List ℕ} {r r′ : Replied}
-    → Called line scratch out r scratchExit outExit → Called (capitals line) scratch out r′ scratchExit′ outExit′
-    → (r′ ≡ r) × (outExit′ ≡ outExit) × (scratchExit′ ≡ scratchExit)
-call-case-blind line scratch out c d =
-    let little = tooLittle 514 scratch out in (
-      d .answer ∙ answer-of-capitals little line ∙ sym (c .answer),
-      d .reply ∙ out-of-capitals little line out ∙ sym (c .reply),
-      d .zeroed ∙ sym (c .zeroed),
-    )
+left-case-blind little line entry = rw (digits-case-blind line)
 
 -- ---- the characters of a reply
 

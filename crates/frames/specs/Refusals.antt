@@ -1,6 +1,6 @@
 -- Which numbers a line can be refused with, by its shape and kind by kind (`reply-refusals`). So it is refused with 2 to 11 only
--- (`reply-refusal`): 1 is for too little lent, and 12 for the plain count, which no line asks for. It is refused with 3 exactly where
--- a character is no digit (`reply-no-digit`).
+-- (`reply-refusal`): 1 is for too little lent, and 12 for the plain count, which no line asks for. It is refused with 3 exactly
+-- where its length is proper and a character is no digit (`reply-no-digit`).
 use mathlib.Core.Path.{_≡_, refl, ap, subst, _∙_}
 use mathlib.Core.Logic.{_↔_, _⊎_, inl, inr, ⊎-elim}
 use mathlib.Core.Bool.{Bool, true, false, not, cond, _&&_, and-eq-true-iff}
@@ -82,6 +82,15 @@ reply-refusal line r e =
     (λ (f : (k : Kind) × (shapeOf line ≡ fit k) × T (among r (refusalsOf k))).
     among-of-lines r (refusalsOf (f .0)) (each-kind (λ (k : Kind). every isOfLines (refusalsOf k)) refl (f .0)) (f .2))
     (reply-refusals line r e)
+
+-- A line with a character that is no digit is refused by its length alone: with 2 or 3.
+pub other-character : (line : List ℕ) → allDigits line ≡ false → replyTo line ≡ refusedAs (cond (badLength (length line)) 2 3)
+unfolding replyTo replyByShape shapeOf
+other-character line e = go (badLength (length line)) refl
+  where
+    go : (b : Bool) → badLength (length line) ≡ b → replyTo line ≡ refusedAs (cond (badLength (length line)) 2 3)
+    go true h = rw h
+    go false h = rw (h, e)
 
 -- No fit line is refused with 3. So a line gets 3 exactly if its length is proper and some character is no digit.
 pub reply-no-digit : (line : List ℕ) → (replyTo line ≡ refusedAs 3) ↔ (Proper (length line) × (allDigits line ≡ false))

@@ -1,6 +1,6 @@
--- The case of letters makes no difference to a line or to a file (document 02, T-01). A line and the same line in capitals have the
--- same fields, items and shape. The lines of a file in capitals are the lines of the file, in capitals, because byte 10 is no letter;
--- so the replies are the same where the reply to each line is.
+-- The case of the letters a to f makes no difference to a line or to a file (document 02, T-01). A line and the same line in
+-- capitals have the same fields, items and shape. The lines of a file in capitals are the file's lines in capitals, because byte 10
+-- is no letter. So the replies are the same where the reply to each line is.
 --
 -- In this order: a part of a text; one line; the lines of a file; the replies.
 use mathlib.Core.Path.{_≡_, refl, sym, ap, _∙_}
@@ -20,15 +20,15 @@ use Rattle.lines.specs.StreamLaws.{finished-map, unfinished-map, last-ma
 
 -- ---- a part of a text
 
-pub take-capitals : (k : ℕ) (s : List ℕ) → take k (capitals s) ≡ capitals (take k s)
-take-capitals zero s = refl
-take-capitals (suc k) [] = refl
-take-capitals (suc k) (c ∷ s) = ap (λ (t : List ℕ). capital c ∷ t) (take-capitals k s)
+pub take-map : (f : ℕ → ℕ) (k : ℕ) (s : List ℕ) → take k (map f s) ≡ map f (take k s)
+take-map f zero s = refl
+take-map f (suc k) [] = refl
+take-map f (suc k) (c ∷ s) = ap (λ (t : List ℕ). f c ∷ t) (take-map f k s)
 
-drop-capitals : (k : ℕ) (s : List ℕ) → drop k (capitals s) ≡ capitals (drop k s)
-drop-capitals zero s = refl
-drop-capitals (suc k) [] = refl
-drop-capitals (suc k) (c ∷ s) = drop-capitals k s
+drop-map : (f : ℕ → ℕ) (k : ℕ) (s : List ℕ) → drop k (map f s) ≡ map f (drop k s)
+drop-map f zero s = refl
+drop-map f (suc k) [] = refl
+drop-map f (suc k) (c ∷ s) = drop-map f k s
 
 -- ---- one line
 
@@ -36,7 +36,7 @@ module _ (line : List ℕ) where
   pub field-of-capitals : (at k : ℕ) → field (capitals line) at k ≡ field line at k
   unfolding field
   field-of-capitals at k =
-      rw (drop-capitals (2 * at) line, take-capitals (2 * k) (drop (2 * at) line))
+      rw (drop-map capital (2 * at) line, take-map capital (2 * k) (drop (2 * at) line))
       (number-of-capitals (take (2 * k) (drop (2 * at) line)))
 
   fields-of-capitals : (at width k : ℕ) → fields (capitals line) at width k ≡ fields line at width k
@@ -46,7 +46,9 @@ module _ (line : List ℕ) where
 
   pub items-of-capitals : (k : Kind) → itemsIn k (capitals line) ≡ itemsIn k line
   unfolding itemsIn countIn
-  items-of-capitals k = rw (field-of-capitals (rowOf k .countAt) 1) (fields-of-capitals (rowOf k .before) (rowOf k .width) (field line (rowOf k .countAt) 1))
+  items-of-capitals k =
+      rw (field-of-capitals (rowOf k .countAt) 1)
+      (fields-of-capitals (rowOf k .before) (rowOf k .width) (field line (rowOf k .countAt) 1))
 
   bytes-of-capitals : (k : Kind) → bytesIn k (capitals line) ≡ bytesIn k line
   unfolding bytesIn countIn
@@ -88,7 +90,7 @@ module _ (line s : List ℕ) where
   unfinished-capitals = unfinished-map capital end-of-capital line s
 
 pub last-capitals : (line : List ℕ) → lastLine (capitals line) ≡ map capitals (lastLine line)
-last-capitals line = last-map capital end-of-capital line
+last-capitals line = last-map capital line
 
 pub lines-of-capitals : (file : List ℕ) → linesOf (capitals file) ≡ map capitals (linesOf file)
 unfolding linesOf
@@ -96,11 +98,8 @@ lines-of-capitals file = lines-map capital end-of-capital [] file
 
 -- ---- the replies
 
-module _ (R : List ℕ → List ℕ) (same : (line : List ℕ) → R (capitals line) ≡ R line) where
-  pub replies-of-capitals : (ls : List (List ℕ)) → repliesTo R (map capitals ls) ≡ repliesTo R ls
-  unfolding repliesTo
-  replies-of-capitals [] = refl
-  replies-of-capitals (line ∷ ls) = rw (same line, replies-of-capitals ls)
-
-  pub file-of-capitals : (file : List ℕ) → repliesTo R (linesOf (capitals file)) ≡ repliesTo R (linesOf file)
-  file-of-capitals file = rw (lines-of-capitals file) (replies-of-capitals (linesOf file))
+pub replies-of-capitals : (R : List ℕ → List ℕ) → ((line : List ℕ) → R (capitals line) ≡ R line)
+    → (ls : List (List ℕ)) → repliesTo R (map capitals ls) ≡ repliesTo R ls
+unfolding repliesTo
+replies-of-capitals R same [] = refl
+replies-of-capitals R same (line ∷ ls) = rw (same line, replies-of-capitals R same ls)

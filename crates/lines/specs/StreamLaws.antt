@@ -1,8 +1,8 @@
 -- However a file is cut into blocks, and though of a long line only the first characters are kept, the replies are those to the
 -- file's lines, one each, in order; and the replies, taken apart into lines, are these again.
 --
--- In this order: one character more; two pieces one after the other; a stretch without byte 10, and one that byte 10 ends; characters
--- that are changed one by one; the replies; lines of which only the first m characters are kept; the blocks of a file.
+-- In this order: one character more; two pieces one after the other; a stretch without byte 10, and one that byte 10 ends;
+-- characters that are changed one by one; the replies; lines of which only the first m characters are kept; the blocks of a file.
 use mathlib.Core.Path.{_≡_, refl, sym, ap, _∙_}
 use mathlib.Core.Bool.{Bool, true, false, not, and-eq-true-iff, false≢true}
 use mathlib.Core.List.{List, [], _∷_, _++_, append-nil, append-assoc, flatten, map, map-append}
@@ -115,6 +115,11 @@ module _ (line t s : List ℕ) (u : unbroken t ≡ true) where
 
 -- ---- characters that are changed one by one
 
+pub last-map : (f : ℕ → ℕ) (line : List ℕ) → lastLine (map f line) ≡ map (map f) (lastLine line)
+unfolding lastLine
+last-map f [] = refl
+last-map f (c ∷ line) = refl
+
 -- Where a byte 10 stays one, and no other character becomes one, the lines are those that were, with their characters changed.
 module _ (f : ℕ → ℕ) (end-kept : (c : ℕ) → eqb (f c) 10 ≡ eqb c 10) where
   pub finished-map : (line s : List ℕ) → finished (map f line) (map f s) ≡ map (map f) (finished line s)
@@ -133,14 +138,9 @@ module _ (f : ℕ → ℕ) (end-kept : (c : ℕ) → eqb (f c) 10 ≡ eqb c 10) 
       (λ l c s e h. rw (unfinished-end (map f l) (f c) (map f s) (end-kept c ∙ e), unfinished-end l c s e, h))
       (λ l c s e h. rw (unfinished-more (map f l) (f c) (map f s) (end-kept c ∙ e), unfinished-more l c s e, ← h, map-append))
 
-  pub last-map : (line : List ℕ) → lastLine (map f line) ≡ map (map f) (lastLine line)
-  unfolding lastLine
-  last-map [] = refl
-  last-map (c ∷ line) = refl
-
   pub lines-map : (line s : List ℕ) → linesFrom (map f line) (map f s) ≡ map (map f) (linesFrom line s)
   unfolding linesFrom
-  lines-map line s = rw (finished-map line s, unfinished-map line s, last-map (unfinished line s), map-append)
+  lines-map line s = rw (finished-map line s, unfinished-map line s, last-map f (unfinished line s), map-append)
 
 -- ---- the replies
 

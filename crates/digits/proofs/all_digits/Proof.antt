@@ -19,9 +19,9 @@ abbrev μ-loop : tie.MeasureT-loop
 μ-loop line all₀ i₀ all i = length line - i
 
 -- The character at i is looked at too.
-next : (s : List ℕ) (i : ℕ) (all one more : Bool) → i < length s → one ≡ isDigit (getD s i 0) → more ≡ all && one
-    → allDigits s ≡ all && allDigits (drop i s) → allDigits s ≡ more && allDigits (drop (i + 1) s)
-next s i all one more h d m e = e ∙ rw (every-from isDigit s i h, m, d, and-assoc)
+next : (s : List ℕ) (i : ℕ) (all one : Bool) → i < length s → one ≡ isDigit (getD s i 0)
+    → allDigits s ≡ all && allDigits (drop i s) → allDigits s ≡ (all && one) && allDigits (drop (i + 1) s)
+next s i all one h d e = e ∙ rw (every-from isDigit s i h, d, and-assoc)
 
 -- No character is left.
 all-seen : (s : List ℕ) (i : ℕ) (all : Bool) → length s ≤ i → allDigits s ≡ all && allDigits (drop i s) → all ≡ allDigits s
@@ -31,8 +31,7 @@ all-seen s i all h e = sym (e ∙ rw (drop-of-length-le s h) (and-true all))
 loop-again : tie.Need-loop-again Inv-loop μ-loop
 loop-again c = (
   search needs,
-  next _ _ (c .before .before .before .before .loop .all) _ _ (omega arith) (c .before .is-digit .ensures) (c .both .ensures)
-      (c .before .before .before .before .loop .inv .1),
+  next _ _ (c .before .before .before .loop .all) _ (omega arith) (c .is-digit .ensures) (c .before .before .before .loop .inv .1),
 )
 
 returns : tie.Need-returns Inv-loop μ-loop
@@ -46,7 +45,6 @@ all-digits-spec =
     μ-loop
     (λ c. search needs)
     (λ c. search needs)
-    (λ c κs. search needs)
     (λ c κs. search needs)
     (λ c. search needs)
     (λ c. search needs)
