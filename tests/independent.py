@@ -825,8 +825,7 @@ def test_parts():
 @what
 @functools.cache
 def lines():
-    """Every kind for all numbers to 200; refusals; lines in both cases; random and damaged lines; empty lines; a last line without its byte
-    10."""
+    """Every kind for all numbers to 200; refusals; both cases; random and damaged lines; empty lines; a last line without its byte 10."""
     some = [b"", b"", *some_lines(1, 20000), b"", LISTING.split(b"\n")[0]]
     return b"\n".join([*small_file(200), *refused_file(), *cased_file(), *some])
 
