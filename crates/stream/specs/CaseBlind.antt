@@ -45,7 +45,7 @@ session-case-blind {pieces} {pieces′} {written} {written′} s t e =
 
 -- ---- one call on a block
 
--- What is left behind the replies, and with them.
+-- The places behind the replies, then the replies with these places.
 behind-same : (lines : List (List ℕ)) (entry : List ℕ) → behind (map capitals lines) entry ≡ behind lines entry
 unfolding behind
 behind-same [] entry = refl
