@@ -273,7 +273,8 @@ fn read_word(ts: &Tables, word: &[u8], t: &mut Table) -> Result<Chain, u8> {
     Ok(Chain { n, position: rank(ts, n, word, t), numbers: numbers(ts, word), price: 0 })
 }
 
-fn read_record(ts: &Tables, numbers: &[u16], t: &mut Table) -> Result<Chain, u8> {
+/// The sum and the word of a record.
+fn record_word(ts: &Tables, numbers: &[u16]) -> Result<(u64, Vec<u8>), u8> {
     if numbers.len() > 64 || numbers.iter().any(|&i| i as usize >= ts.parts.len()) {
         return Err(8);
     }
@@ -300,9 +301,43 @@ fn read_record(ts: &Tables, numbers: &[u16], t: &mut Table) -> Result<Chain, u8>
     }
     if n > 0 {
         word.push(3);
+    }
+    Ok((n, word))
+}
+
+fn read_record(ts: &Tables, numbers: &[u16], t: &mut Table) -> Result<Chain, u8> {
+    let (n, word) = record_word(ts, numbers)?;
+    if n > 0 {
         fill_counts(ts, n, t);
     }
     Ok(Chain { n, position: rank(ts, n, &word, t), numbers: numbers.to_vec(), price: 0 })
+}
+
+fn times_modulo(r: u64, f: u64, m: u64) -> u64 {
+    (r as u128 * f as u128 % m as u128) as u64
+}
+
+fn plus_modulo(r: u64, x: u64, m: u64) -> u64 {
+    ((r as u128 + x as u128) % m as u128) as u64
+}
+
+/// A record's chain, run on x modulo m: back along its word, doubling, tripling and adding, each with a remainder of 128 bits.
+fn run_chain(ts: &Tables, numbers: &[u16], m: u64, x: u64) -> Result<u64, u8> {
+    if m == 0 || m > 1 << 63 {
+        return Err(13);
+    }
+    if x >= m {
+        return Err(14);
+    }
+    let (_, word) = record_word(ts, numbers)?;
+    let mut r = 0;
+    for &l in word.iter().rev() {
+        r = times_modulo(r, if l < 2 { 2 } else { 3 }, m);
+        if l % 2 == 1 {
+            r = plus_modulo(r, x, m);
+        }
+    }
+    Ok(r)
 }
 
 fn digits(out: &mut String, v: u64, bytes: usize) {
@@ -323,6 +358,16 @@ fn chain_reply(c: &Chain, price: bool) -> String {
     out
 }
 
+fn single_reply(v: u64) -> String {
+    let mut out = String::from("00");
+    digits(&mut out, v, 8);
+    out
+}
+
+fn part_numbers(bytes: &[u8]) -> Vec<u16> {
+    bytes.chunks(2).map(|p| number(p) as u16).collect()
+}
+
 fn number(bytes: &[u8]) -> u64 {
     bytes.iter().fold(0, |v, &x| v << 8 | x as u64)
 }
@@ -341,13 +386,15 @@ fn answer(ts: &Tables, line: &[u8], t: &mut Table) -> Result<String, u8> {
         });
     }
     let bytes: Vec<u8> = values.chunks(2).map(|p| p[0] * 16 + p[1]).collect();
-    let count_byte = if bytes.len() > 1 { bytes[1] as usize } else { 0 };
+    let at = if bytes[0] == 7 { 17 } else { 1 };
+    let count_byte = if bytes.len() > at { bytes[at] as usize } else { 0 };
     let length = match bytes[0] {
         1 => 9,
         2 => 18,
         3 => 17,
         4 => 2 + 2 * count_byte,
         5 | 6 => 2 + count_byte,
+        7 => 18 + 2 * count_byte,
         _ => return Err(4),
     };
     if bytes.len() != length {
@@ -355,11 +402,7 @@ fn answer(ts: &Tables, line: &[u8], t: &mut Table) -> Result<String, u8> {
     }
     let n = if bytes.len() >= 9 { number(&bytes[1..9]) } else { 0 };
     match bytes[0] {
-        1 => {
-            let mut out = String::from("00");
-            digits(&mut out, count(ts, n, t), 8);
-            Ok(out)
-        }
+        1 => Ok(single_reply(count(ts, n, t))),
         2 => {
             let q = Asked {
                 n,
@@ -373,11 +416,9 @@ fn answer(ts: &Tables, line: &[u8], t: &mut Table) -> Result<String, u8> {
             best(ts, &q, t).map(|c| chain_reply(&c, true))
         }
         3 => chain_at(ts, n, number(&bytes[9..17]), t).map(|c| chain_reply(&c, false)),
-        4 => {
-            let numbers: Vec<u16> = bytes[2..].chunks(2).map(|p| number(p) as u16).collect();
-            read_record(ts, &numbers, t).map(|c| chain_reply(&c, false))
-        }
+        4 => read_record(ts, &part_numbers(&bytes[2..]), t).map(|c| chain_reply(&c, false)),
         5 => read_word(ts, &bytes[2..], t).map(|c| chain_reply(&c, false)),
+        7 => run_chain(ts, &part_numbers(&bytes[18..]), n, number(&bytes[9..17])).map(single_reply),
         _ => {
             let c = read_word(ts, &bytes[2..], t)?;
             if c.position + 1 >= count(ts, c.n, t) {

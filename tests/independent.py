@@ -16,7 +16,8 @@ Not shared with the crates:
 - the six relations: check_003 tries them on the engine's counts;
 - the two readers: here a pattern on text says whether a word is good;
 - positions by adding up, along a word, the chains that turn off to a: here all words are compared as text, many at a time;
-- the best chain's numeric keys: here parts, price and text are compared.
+- the best chain's numeric keys: here parts, price and text are compared;
+- the run of a chain along its path, by doubling, tripling and adding modulo m: here n × x modulo m, in integers of any size.
 
 Shared with the crates:
 - the definitions of document 01 and 003, and the order of the refusals;
@@ -235,11 +236,16 @@ def check_003():
 
 
 def check_list(n, entries):
-    """The engine's answers on a number against its whole list: the count, each position, each chain, and the best within limits."""
+    """The engine's answers on a number against its whole list: the count, each position, each chain, and the best within limits.
+
+    Every chain of the list runs to the same residue, which is that of x added up n times.
+    """
     assert count(n) == len(entries) and ask("at", n, len(entries)) is None
     for i, (word, chain) in enumerate(entries):
         assert good(word) and word_at(n, i) == word and position_of(word) == i and chain_of(word) == chain
     assert len({word for word, _ in entries}) == len(entries)
+    m, x = RUNS[n % len(RUNS)]
+    assert {reply_to(run_line(m, x, numbers_of(c))) for _, c in entries} == {residue_reply(sum(itertools.repeat(x, n)) % m)}
     for i, limits in enumerate(CHECKED_LIMITS):
         prices = CHECKED_PRICES[(n + i) % 5]
         least = listed_best(entries, limits, prices)
@@ -255,10 +261,15 @@ def check_relations(u):
 
 
 def check_back(n, chance):
-    """A position and its word lead to each other, and words ascend with their positions; a word with another sum has no position."""
+    """A position and its word lead to each other, and words ascend with their positions; a word with another sum has no position.
+
+    The chains found run to one residue.
+    """
     positions = sorted({0, count(n) - 1, *(chance.randrange(count(n)) for _ in range(3))})
     words = [word_at(n, i) for i in positions]
     assert words == sorted(words) and ask("at", n, count(n)) is None
+    m, x = RUNS[n % len(RUNS)]
+    assert {reply_to(run_line(m, x, numbers_of(chain_of(word)))) for word in words} == {residue_reply(n * x % m)}
     for i, word in zip(positions, words):
         chain = chain_of(word)
         assert good(word) and word_of(chain) == word and sum_of(chain) == n and position_of(word) == i
@@ -273,14 +284,36 @@ def chain_reply(n, chain, price=None):
     return text if price is None else text + f"{price:08X}"
 
 
-def reply_to_record(numbers):
+def residue_reply(residue):
+    return f"00{residue:016X}"
+
+
+def refusal_of_record(numbers):
+    """The number of the refusal that a record gets, or None."""
     if len(numbers) > 64 or any(i >= len(TABLE) for i in numbers):
-        return "08"
-    chain = [TABLE[i] for i in numbers]
-    values = [VALUE[p] for p in chain]
+        return 8
+    values = [VALUE[TABLE[i]] for i in numbers]
     if any(x <= y or x % y for x, y in zip(values, values[1:])):
-        return "09"
-    return chain_reply(sum(values), chain) if sum(values) < LIMIT else "0A"
+        return 9
+    return 10 if sum(values) >= LIMIT else None
+
+
+def reply_to_record(numbers):
+    refusal = refusal_of_record(numbers)
+    if refusal:
+        return f"{refusal:02X}"
+    chain = [TABLE[i] for i in numbers]
+    return chain_reply(sum_of(chain), chain)
+
+
+def reply_to_run(m, x, numbers):
+    """The residue of n × x, where n is the sum of the parts: no path is followed."""
+    if not 1 <= m <= 2**63:
+        return "0D"
+    if x >= m:
+        return "0E"
+    refusal = refusal_of_record(numbers)
+    return f"{refusal:02X}" if refusal else residue_reply(sum(VALUE[TABLE[i]] for i in numbers) * x % m)
 
 
 def reply_to_word(letters, following):
@@ -304,8 +337,10 @@ def reply_to(line):
     if not re.fullmatch(rb"[0-9A-Fa-f]*", line):
         return "03"
     data = bytes.fromhex(line.decode())
-    kind, more = data[0], data[1] if len(data) > 1 else 0
-    lengths = {1: 9, 2: 18, 3: 17, 4: 2 + 2 * more, 5: 2 + more, 6: 2 + more}
+    kind = data[0]
+    counted_at = 17 if kind == 7 else 1
+    more = data[counted_at] if len(data) > counted_at else 0
+    lengths = {1: 9, 2: 18, 3: 17, 4: 2 + 2 * more, 5: 2 + more, 6: 2 + more, 7: 18 + 2 * more}
     if kind not in lengths:
         return "04"
     if len(data) != lengths[kind]:
@@ -319,8 +354,9 @@ def reply_to(line):
     if kind == 3:
         n, position = number(1, 8), number(9, 8)
         return chain_reply(n, chain_of(word_at(n, position))) if position < count(n) else "06"
-    if kind == 4:
-        return reply_to_record([number(2 + 2 * i, 2) for i in range(more)])
+    if kind in (4, 7):
+        numbers = [number(counted_at + 1 + 2 * i, 2) for i in range(more)]
+        return reply_to_record(numbers) if kind == 4 else reply_to_run(number(1, 8), number(9, 8), numbers)
     return reply_to_word(list(data[2:]), kind == 6)
 
 
@@ -346,13 +382,23 @@ def word_line(kind, word):
     return hexed((kind, 1), (len(word), 1), *((int(letter), 1) for letter in word))
 
 
+def numbers_of(chain):
+    return [NUMBER[p] for p in chain]
+
+
 def chain_line(chain):
-    return hexed((4, 1), (len(chain), 1), *((NUMBER[p], 2) for p in chain))
+    return hexed((4, 1), (len(chain), 1), *((i, 2) for i in numbers_of(chain)))
+
+
+def run_line(m, x, numbers, k=None):
+    """With another count than there are numbers, where one is named."""
+    return hexed((7, 1), (m, 8), (x, 8), (len(numbers) if k is None else k, 1), *((i, 2) for i in numbers))
 
 
 def small_file(most):
-    """Every kind for all numbers to `most`, with every position and one past it."""
+    """Every kind for all numbers to `most`, with every position and one past it. All chains of a number run on one residue."""
     for n in range(most + 1):
+        m, x = RUNS[n % len(RUNS)]
         yield hexed((1, 1), (n, 8))
         yield hexed((2, 1), (n, 8), (255, 1), (255, 1), (255, 1), (n % 11, 2), (n % 7, 2), (n % 5, 2))
         yield hexed((2, 1), (n, 8), (n % 4, 1), (n % 6, 1), (n % 3, 1), (4, 2), (7, 2), (9, 2))
@@ -363,6 +409,7 @@ def small_file(most):
             yield chain_line(chain_of(word))
             yield word_line(5, word)
             yield word_line(6, word)
+            yield run_line(m, x, numbers_of(chain_of(word)))
 
 
 def refused_file():
@@ -377,11 +424,12 @@ def refused_file():
         yield bytes([byte]) * 2
         yield bytes([byte]) + good_line
     yield good_line + b"\r"
+    # kinds that there are not, and 07, which is longer
     for kind in (0, 7, 8, 10, 127, 128, 255):
         yield hexed((kind, 1))
         yield hexed((kind, 1), (19, 8))
         yield hexed((kind, 1), (19, 8)) + b"x"
-    for kind in range(1, 7):
+    for kind in range(1, 8):
         for extra in range(0, 20):
             yield hexed((kind, 1)) + b"00" * extra
     # a character that is none against the length of the kind, and against each kind's own refusals
@@ -416,8 +464,66 @@ def refused_file():
             yield hexed((2, 1), (n, 8), *((x, 1) for x in limits), *((x, 2) for x in PRICES[n % 6]))
 
 
-def some_lines(seed, times):
-    """Random and damaged lines of all kinds, with numbers of all sizes."""
+TWOS = [NUMBER[a, 0] for a in range(63, -1, -1)]  # 64 parts, which sum to 2^64 - 1
+THREES = [NUMBER[0, b] for b in range(40, -1, -1)]
+OVER = [NUMBER[62, 1], NUMBER[61, 1]]  # sums to 2^64 or more
+RECORDS = [[], [0], [1], [2], [NUMBER[3, 2], NUMBER[1, 1]], [1343], TWOS, THREES]
+RECORDS += [[1344], [0, 1344], [0, 1], OVER, [1343, 1343]]  # refused: 8, 8 before 9, 9, 10, 9 before 10
+MODULI = [0, 1, 2, 3, 2**63 - 1, 2**63, 2**63 + 1, 2**64 - 1]
+RUNS = [(2**63, 2**63 - 1), (2**63 - 1, 2**63 - 2), (1, 0), (2**63 - 25, 10**18), (2, 1), (2**63 - 1, 2**62), (3, 2), (97, 96)]
+RUNS += [(10**9 + 7, 123456789), (2**62 + 1, 2**62), (2**63, 1)]
+
+
+def residues_at(m):
+    """Each x at the edges of what a modulus takes, and the largest there is."""
+    return sorted({x for x in (0, 1, m - 1, m, m + 1, LIMIT - 1) if 0 <= x < LIMIT})
+
+
+def run_file():
+    """Lines of kind 07: m and x at their edges with records good and refused, so that 13, 14, 8, 9 and 10 meet; then lengths."""
+    for numbers in RECORDS:
+        for m in MODULI:
+            for x in residues_at(m):
+                yield run_line(m, x, numbers)
+    # of the right length, with 64 parts and more: to 119 they fit in a line
+    fields = [(2**63, 2**63 - 1), (2**63 - 1, 2**63 - 2), (1, 0)]
+    refused_fields = [(0, 0), (2**63 + 1, 2**63), (2**64 - 1, 2**64 - 1), (2**63, 2**63), (3, 4)]
+    for numbers in ([0] * 64, [0] * 65, [*TWOS, 0], [1, *TWOS], [1344] * 65, [0] * 66, [0] * 119, [1344] * 119, [0] * 120):
+        for m, x in fields + refused_fields:
+            yield run_line(m, x, numbers)
+    # a count that is one too many or too few, or much too many; the fields are good or refused
+    for k in (0, 1, 2, 41, 63, 64, 65, 118, 119, 120, 127, 128, 255):
+        for there in (k - 1, k + 1, 119):
+            if 0 <= there <= 119 and there != k:
+                for m, x in fields[1], refused_fields[0], refused_fields[4]:
+                    yield run_line(m, x, (TWOS * 2)[:there], k)
+    # a byte too few or too many: with 119 numbers and a byte the line has 514 characters
+    for numbers in ([], [0], TWOS, [0] * 119):
+        for m, x in fields[1], refused_fields[0], refused_fields[4]:
+            yield run_line(m, x, numbers)[:-2]
+            yield run_line(m, x, numbers) + b"00"
+    # a second byte that would be the right count for kind 04, with the right count and a wrong one for kind 07
+    for k in (0, 1, 2, 64, 119):
+        yield run_line((8 + k) * 2**56, 1, (TWOS * 2)[:k])
+        yield run_line((8 + k) * 2**56, 1, (TWOS * 2)[:k], k + 1)
+    # a character that is none, in each field
+    for line in (run_line(2**63 - 1, 2**63 - 2, [9, 0]), run_line(0, 1, [1344]), run_line(0, 1, [1344])[:-2]):
+        for at in (0, 1, 2, 17, 18, 33, 34, 35, 36, len(line) - 1):
+            yield line[:at] + b"G" + line[at + 1 :]
+    # the other kinds' lines as kind 07, and kind 07's as others
+    for line in (*LISTING.split(b"\n")[:5], b"02" + b"0" * 34, word_line(6, "3013")):
+        yield b"07" + line[2:]
+    for kind in (0, 1, 2, 3, 4, 5, 6, 8, 9, 15, 23, 112, 135, 255):
+        yield hexed((kind, 1)) + run_line(97, 96, [9, 0])[2:]
+        yield hexed((kind, 1)) + run_line(0, 1, [1344])[2:]
+
+
+KINDS = (1, 1, 1, 2, 3, 3, 3, 4, 4, 4, 5, 5, 6, 6)  # as often as they are drawn
+KINDS_AND_RUNS = (*KINDS, 7, 7, 7)
+
+
+def some_lines(seed, times, kinds=KINDS_AND_RUNS):
+    """Random and damaged lines of these kinds, with numbers of all sizes."""
     chance = random.Random(seed)
 
     def number():
@@ -427,8 +533,14 @@ def some_lines(seed, times):
         n = number()
         return word_at(n, chance.randrange(count(n)))
 
+    def some_run(numbers):
+        """These numbers, run. Now and then the modulus, x or the numbers are taken from the edges, where they may be refused."""
+        m = chance.choice(MODULI) if chance.randrange(5) == 0 else chance.randrange(2 ** chance.choice((8, 32, 62, 63, 63, 63))) + 1
+        x = chance.choice(residues_at(m)) if chance.randrange(5) == 0 else chance.randrange(m or 1)
+        return run_line(m, x, chance.choice(RECORDS) if chance.randrange(10) == 0 else numbers)
+
     def line():
-        kind = chance.choice((1, 1, 1, 2, 3, 3, 3, 4, 4, 4, 5, 5, 6, 6))
+        kind = chance.choice(kinds)
         n = number()
         if kind == 1:
             return hexed((1, 1), (n, 8))
@@ -439,6 +551,8 @@ def some_lines(seed, times):
         if kind == 3:
             return hexed((3, 1), (n, 8), (chance.randrange(count(n) + 2), 8))
         word = some_word()
+        if kind == 7:
+            return some_run(numbers_of(chain_of(word)))
         return chain_line(chain_of(word)) if kind == 4 else word_line(kind, word)
 
     def damaged(text):
@@ -453,7 +567,9 @@ def some_lines(seed, times):
             return text[: 2 * (at // 2)] + text[2 * (at // 2) + 2 :]
         if way == 4:
             return text + text[: chance.randrange(len(text))]
-        return text[:2] + hexed((chance.getrandbits(8), 1)) + text[4:]
+        # the byte that counts what follows, in the kinds that have one
+        at = 34 if text[:2] == b"07" else 2
+        return text[:at] + hexed((chance.getrandbits(8), 1)) + text[at + 2 :]
 
     for _ in range(times):
         text = line()
@@ -469,7 +585,8 @@ def cased_file():
     """Lines of every kind, good, damaged and refused, that have letters: each in capitals, in small letters and in mixed case."""
     chance = random.Random(4)
     last = [word_line(6, word_at(n, count(n) - 1)) for n in EDGES]
-    for line in [*some_lines(5, 400), *refused_file(), *last]:
+    runs = [*itertools.islice(run_file(), 0, None, 4), *some_lines(6, 100, [7])]
+    for line in [*some_lines(5, 400, KINDS), *refused_file(), *last, *runs]:
         if re.search(rb"[A-F]", line):
             yield from (line.upper(), line.lower(), recased(line, chance))
 
@@ -552,7 +669,7 @@ def told_of_word(letters, size):
 
 def told_of_record(numbers, size):
     """The sum, and what writing the word answers and leaves."""
-    refusal = {"08": 8, "09": 9, "0A": 10}.get(reply_to_record(numbers))
+    refusal = refusal_of_record(numbers)
     first = 1 if size < 64 else refusal
     if first:
         return f" refused {first} :" + lent_places(None, size)
@@ -561,7 +678,7 @@ def told_of_record(numbers, size):
 
 
 def judged(numbers):
-    refusal = {"08": 8, "09": 9, "0A": 10}.get(reply_to_record(numbers))
+    refusal = refusal_of_record(numbers)
     return f" refused {refusal}" if refusal else f" {sum(VALUE[TABLE[i]] for i in numbers)}"
 
 
@@ -649,9 +766,9 @@ def ends_line(letters):
 
 def record_line(numbers):
     """Reading a record, asked whether it is 0 at position 0."""
-    reply = reply_to_record(numbers)
-    if len(reply) == 2:
-        return f"{int(reply, 16)} "
+    refusal = refusal_of_record(numbers)
+    if refusal:
+        return f"{refusal} "
     chain = [TABLE[i] for i in numbers]
     found = (sum_of(chain), position_of(word_of(chain)))
     return "= " if found == (0, 0) else "%d %d " % found
@@ -825,9 +942,12 @@ def test_parts():
 @what
 @functools.cache
 def lines():
-    """Every kind for all numbers to 200; refusals; both cases; random and damaged lines; empty lines; a last line without its byte 10."""
-    some = [b"", b"", *some_lines(1, 20000), b"", LISTING.split(b"\n")[0]]
-    return b"\n".join([*small_file(200), *refused_file(), *cased_file(), *some])
+    """Every kind for all numbers to 200; refusals; both cases; random and damaged lines; empty lines; a last line without byte 10.
+
+    Lines of kind 07 are drawn apart, so that the random lines of the other kinds stay as they were.
+    """
+    some = [b"", b"", *some_lines(1, 20000, KINDS), *some_lines(7, 800, [7]), b"", LISTING.split(b"\n")[0]]
+    return b"\n".join([*small_file(200), *refused_file(), *run_file(), *cased_file(), *some])
 
 
 @what

@@ -1,9 +1,9 @@
 /* Double-base chains from C and C++.
  *
  * A chain writes a number as a sum of parts 2^a * 3^b, each a proper multiple of the next. The functions count the chains of a
- * number, find its best chain, and reply to a line of hexadecimal. Each is proved to answer and to leave behind exactly what its
- * contract in crates/meltsjuk/src/lib.rt says, for every argument. `rt staticlib meltsjuk` writes the archive
- * target/staticlib/libmeltsjuk.a, for x86-64 Linux:
+ * number, find its best chain, run a chain on a residue, and reply to a line of hexadecimal. Each is proved to answer and to leave
+ * behind exactly what its contract in crates/meltsjuk/src/lib.rt says, for every argument. `rt staticlib meltsjuk` writes the
+ * archive target/staticlib/libmeltsjuk.a, for x86-64 Linux:
  *
  *     cc -I bindings/c program.c target/staticlib/libmeltsjuk.a
  *
@@ -19,7 +19,7 @@
  * with a stack of MELTSJUK_STACK bytes can make every call. The caller's own functions and signal handlers need more on top.
  *
  * Too little lent is refused first of all, and then nothing is written. On every other return the first MELTSJUK_SCRATCH numbers of
- * the scratch are zero and those after them are as they were. More may be lent than is asked for.
+ * the scratch are zero and those after them are as they were. More may be lent than is asked for. meltsjuk_run is lent no scratch.
  */
 #ifndef MELTSJUK_H
 #define MELTSJUK_H
@@ -32,10 +32,16 @@
 #define MELTSJUK_REPLY 514    /* at least so many bytes are lent for a reply */
 #define MELTSJUK_STACK 32768  /* a thread with so many bytes of stack can make any of the calls */
 
-/* The answers of meltsjuk_count and meltsjuk_best. meltsjuk_reply answers MELTSJUK_LITTLE_LENT too, and otherwise a length. */
-#define MELTSJUK_SERVED 0      /* the answer stands where the caller asked for it */
-#define MELTSJUK_LITTLE_LENT 1 /* too little is lent, and nothing was written */
-#define MELTSJUK_NONE_FITS 5   /* no chain is within the limits */
+/* The answers of meltsjuk_count, meltsjuk_best and meltsjuk_run; at each function stands which of them it gives. meltsjuk_reply
+ * answers MELTSJUK_LITTLE_LENT too, and otherwise a length. */
+#define MELTSJUK_SERVED 0       /* the answer stands where the caller asked for it */
+#define MELTSJUK_LITTLE_LENT 1  /* too little is lent, and nothing was written */
+#define MELTSJUK_NONE_FITS 5    /* no chain is within the limits */
+#define MELTSJUK_NO_PART 8      /* a part number is 1344 or more, or there are more than 64 part numbers */
+#define MELTSJUK_NO_CHAIN 9     /* a part is not a proper multiple of the next */
+#define MELTSJUK_LARGE_SUM 10   /* the parts sum to 2^64 or more */
+#define MELTSJUK_BAD_MODULUS 13 /* the modulus is 0 or above 2^63 */
+#define MELTSJUK_NO_RESIDUE 14  /* x is not below the modulus */
 
 #ifdef __cplusplus
 extern "C" {
@@ -46,7 +52,8 @@ extern "C" {
  *
  * Lent: the line; the scratch, MELTSJUK_SCRATCH numbers or more; `out`, MELTSJUK_REPLY bytes or more.
  * Answers how many digits the reply has, at least 2 and at most 512. They stand in `out`, then zeros up to MELTSJUK_REPLY, so that
- * the digits are a C string, and later bytes are as they were. A refused line's reply is the two digits of its number, 02 to 0B.
+ * the digits are a C string, and later bytes are as they were. A refused line's reply is the two digits of its number: 02 to 0B, 0D
+ * or 0E.
  * Answers MELTSJUK_LITTLE_LENT, which is no length, where the scratch or `out` is too short; then nothing was written. */
 uint64_t meltsjuk_reply(const uint8_t *line, size_t line_length, uint64_t *scratch, size_t scratch_length, uint8_t *out,
                         size_t out_length);
@@ -71,6 +78,15 @@ uint8_t meltsjuk_count(uint64_t n, uint64_t *scratch, size_t scratch_length, uin
 uint8_t meltsjuk_best(uint64_t n, uint8_t parts_limit, uint8_t a_limit, uint8_t b_limit, uint16_t d, uint16_t t, uint16_t s,
                       uint64_t *scratch, size_t scratch_length, uint16_t *places, size_t places_length, uint64_t *position,
                       uint64_t *k, uint64_t *price);
+
+/* A chain run on x modulo m. A residue follows the chain's path back from the largest part. It begins as 0, is doubled or tripled
+ * at each step, and x is added at each part. It ends as n * x modulo m, where n is the sum of the parts. The empty chain gives 0.
+ *
+ * Lent: the chain's part numbers, largest part first, as meltsjuk_best gives them; one number for the residue. No scratch is lent.
+ * The empty chain has no part numbers: the length is 0, and the pointer is not null.
+ * Answers MELTSJUK_SERVED with the residue in *residue. Otherwise answers the first of these that holds, and *residue is as it was:
+ * MELTSJUK_BAD_MODULUS, MELTSJUK_NO_RESIDUE, MELTSJUK_NO_PART, MELTSJUK_NO_CHAIN, MELTSJUK_LARGE_SUM. */
+uint8_t meltsjuk_run(const uint16_t *numbers, size_t numbers_length, uint64_t m, uint64_t x, uint64_t *residue);
 
 #ifdef __cplusplus
 }

@@ -1,8 +1,8 @@
 /* The library from C, for tests/exports.
  *
  * Without an argument: the reply to each line of standard input, a line each, as the program `intake` writes them.
- * With the argument `calls`: the same for lines of kinds 01 and 02 of the right length, by the calls for the count and the best
- * chain, whose answers are written here as replies.
+ * With the argument `calls`: the same for lines of kinds 01, 02 and 07 of the right length, by the calls for the count, the best
+ * chain and the run of a chain, whose answers are written here as replies.
  *
  * Every call is made on a thread of its own with a stack of MELTSJUK_STACK bytes. The page below the stack must not be touched: a
  * call that needs more stack ends the program by a signal. */
@@ -21,6 +21,7 @@
 
 static uint64_t scratch[MELTSJUK_SCRATCH];
 static uint16_t places[MELTSJUK_PLACES];
+static uint16_t numbers[255]; /* a line tells in one byte how many part numbers it has */
 static uint8_t out[MELTSJUK_REPLY];
 static pthread_attr_t small; /* a thread with just as much stack */
 
@@ -79,11 +80,30 @@ static void *too_little(void *unused)
     return unused;
 }
 
+/* Each refusal of a run, in the order in which they are tested: what a later call is refused for is wrong in the earlier ones too.
+ * The residue is as it was. */
+static void *refused_runs(void *unused)
+{
+    const uint16_t bad[4] = {1327, 1286, 1327, 1344}; /* 3 * 2^62, 3 * 2^61, 3 * 2^62, and no part's number */
+    const uint64_t most = UINT64_C(1) << 63;
+    uint64_t residue = 7;
+
+    must(meltsjuk_run(bad, 4, 0, 0, &residue) == MELTSJUK_BAD_MODULUS, "a run modulo 0");
+    must(meltsjuk_run(bad, 4, most + 1, most + 1, &residue) == MELTSJUK_BAD_MODULUS, "a run modulo 2^63 + 1");
+    must(meltsjuk_run(bad, 4, most, most, &residue) == MELTSJUK_NO_RESIDUE, "a run on an x that is m");
+    must(meltsjuk_run(bad, 4, most, most - 1, &residue) == MELTSJUK_NO_PART, "a run of a part number 1344");
+    must(meltsjuk_run(bad, 3, most, most - 1, &residue) == MELTSJUK_NO_CHAIN, "a run of parts that are no chain");
+    must(meltsjuk_run(bad, 2, most, most - 1, &residue) == MELTSJUK_LARGE_SUM, "a run of parts with too large a sum");
+    must(residue == 7, "a residue written although the run was refused");
+    must(meltsjuk_run(bad, 0, most, most - 1, &residue) == MELTSJUK_SERVED && residue == 0, "a run of the empty chain");
+    return unused;
+}
+
 /* A line, and what the call for it answers. */
 struct request {
     const char *line;
     size_t length;
-    uint64_t digits, count, position, k, price;
+    uint64_t digits, count, position, k, price, residue;
     uint8_t status;
 };
 
@@ -123,6 +143,14 @@ static void *call_best(void *request)
     return NULL;
 }
 
+static void *call_run(void *request)
+{
+    struct request *r = request;
+
+    r->status = meltsjuk_run(numbers, (size_t)r->k, field(r->line, 1, 8), field(r->line, 9, 8), &r->residue);
+    return NULL;
+}
+
 static void reply_by_count(struct request *r)
 {
     on_small_stack(call_count, r);
@@ -143,12 +171,29 @@ static void reply_by_best(struct request *r)
     printf("\n");
 }
 
+static void reply_by_run(struct request *r)
+{
+    r->k = field(r->line, 17, 1);
+    r->residue = UINT64_MAX;
+    for (uint64_t i = 0; i < r->k; i++)
+        numbers[i] = (uint16_t)field(r->line, 18 + 2 * i, 2);
+    on_small_stack(call_run, r);
+    printf("%02X", r->status);
+    if (r->status == MELTSJUK_SERVED)
+        printf("%016" PRIX64, r->residue);
+    else
+        must(r->residue == UINT64_MAX, "a residue written although the line was refused");
+    printf("\n");
+}
+
 static void reply_by_call(struct request *r)
 {
     if (r->length == 18 && strncmp(r->line, "01", 2) == 0)
         reply_by_count(r);
     else if (r->length == 36 && strncmp(r->line, "02", 2) == 0)
         reply_by_best(r);
+    else if (r->length >= 36 && r->length == 36 + 4 * field(r->line, 17, 1) && strncmp(r->line, "07", 2) == 0)
+        reply_by_run(r);
     else
         must(0, "a line that no call serves");
 }
@@ -181,6 +226,7 @@ int main(int argc, char **argv)
     }
     free(line);
     on_small_stack(too_little, NULL);
+    on_small_stack(refused_runs, NULL);
     must(!ferror(stdin) && fflush(stdout) == 0, "reading or writing failed");
     return 0;
 }

@@ -1,8 +1,8 @@
 //! The library from Rust, for tests/exports.
 //!
 //! Without an argument: the reply to each line of standard input, a line each, as the program `intake` writes them.
-//! With the argument `calls`: the same for lines of kinds 01 and 02 of the right length, by the calls for the count and the best
-//! chain, whose answers are written here as replies.
+//! With the argument `calls`: the same for lines of kinds 01, 02 and 07 of the right length, by the calls for the count, the best
+//! chain and the run of a chain, whose answers are written here as replies.
 use meltsjuk::{Limits, Prices, Terminal};
 use std::io::{self, BufRead, Write};
 
@@ -31,10 +31,19 @@ fn reply_by_best(terminal: &mut Terminal, line: &[u8]) -> String {
     }
 }
 
+fn reply_by_run(line: &[u8]) -> String {
+    let parts: Vec<u16> = (0..field(line, 17, 1) as usize).map(|i| field(line, 18 + 2 * i, 2) as u16).collect();
+    match meltsjuk::run(&parts, field(line, 1, 8), field(line, 9, 8)) {
+        Ok(residue) => format!("00{residue:016X}"),
+        Err(refusal) => format!("{:02X}", refusal as u8),
+    }
+}
+
 fn reply_by_call(terminal: &mut Terminal, line: &[u8]) -> String {
     match (line.len(), &line[..2]) {
         (18, b"01") => reply_by_count(terminal, line),
         (36, b"02") => reply_by_best(terminal, line),
+        (36.., b"07") if line.len() == 36 + 4 * field(line, 17, 1) as usize => reply_by_run(line),
         _ => panic!("a line that no call serves"),
     }
 }

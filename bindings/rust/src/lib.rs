@@ -1,14 +1,16 @@
 //! Double-base chains from Rust.
 //!
 //! A chain writes a number as a sum of parts 2^a × 3^b, each a proper multiple of the next: 19 = 18 + 1. A [`Terminal`] counts the
-//! chains of a number, finds its best chain, and replies to lines of hexadecimal. The library behind it is proved to meet its
-//! contracts in crates/meltsjuk/src/lib.rt for every argument; this package lends it the memory that it asks for. For x86-64 Linux.
-//! A thread of Rust's usual size has stack enough; bindings/c/meltsjuk.h says how much a call needs.
+//! chains of a number, finds its best chain, and replies to lines of hexadecimal; [`run`] runs a chain on a residue. The library
+//! behind them is proved to meet its contracts in crates/meltsjuk/src/lib.rt for every argument; this package lends it the memory
+//! that it asks for. For x86-64 Linux. A thread of Rust's usual size has stack enough; bindings/c/meltsjuk.h says how much a call
+//! needs.
 //!
 //! ```
 //! let mut terminal = meltsjuk::Terminal::new();
 //! assert_eq!(terminal.count(19), 4);
 //! assert_eq!(terminal.reply(b"010000000000000013"), "000000000000000004");
+//! assert_eq!(meltsjuk::run(&[9, 0], 101, 7), Ok(32)); // 18 + 1, run on 7 modulo 101
 //! ```
 #![warn(missing_docs)]
 
@@ -46,6 +48,8 @@ mod archive {
             k: *mut u64,
             price: *mut u64,
         ) -> u8;
+
+        pub fn meltsjuk_run(numbers: *const u16, numbers_length: usize, m: u64, x: u64, residue: *mut u64) -> u8;
     }
 }
 
@@ -88,7 +92,65 @@ pub struct Best {
     pub price: u64,
 }
 
-/// The services, with the memory that is lent to them.
+/// Why a chain is not run. `refusal as u8` is its number.
+#[derive(Clone, Copy, Debug, PartialEq, Eq)]
+pub enum Refusal {
+    /// A part number is 1,344 or more, or there are more than 64 part numbers.
+    NoPart = 8,
+    /// A part is not a proper multiple of the next.
+    NoChain = 9,
+    /// The parts sum to 2^64 or more.
+    LargeSum = 10,
+    /// The modulus is 0 or above 2^63.
+    BadModulus = 13,
+    /// x is not below the modulus.
+    NoResidue = 14,
+}
+
+impl std::fmt::Display for Refusal {
+    fn fmt(&self, f: &mut std::fmt::Formatter) -> std::fmt::Result {
+        f.write_str(match self {
+            Refusal::NoPart => "a part number is 1344 or more, or there are more than 64 part numbers",
+            Refusal::NoChain => "a part is not a proper multiple of the next",
+            Refusal::LargeSum => "the parts sum to 2^64 or more",
+            Refusal::BadModulus => "the modulus is 0 or above 2^63",
+            Refusal::NoResidue => "x is not below the modulus",
+        })
+    }
+}
+
+impl std::error::Error for Refusal {}
+
+/// The chain with these part numbers, largest part first, run on x modulo m. A residue follows the chain's path back from the
+/// largest part. It begins as 0, is doubled or tripled at each step, and x is added at each part. It ends as n × x modulo m, where n
+/// is the sum of the parts. The empty chain gives 0. No scratch is lent, so no [`Terminal`] is needed.
+///
+/// The modulus is judged first, then x, then the part numbers: [`Refusal::NoPart`], [`Refusal::NoChain`], [`Refusal::LargeSum`].
+///
+/// ```
+/// use meltsjuk::{run, Refusal};
+///
+/// assert_eq!(run(&[9, 0], 101, 7), Ok(32)); // 18 + 1: 19 × 7 = 133 = 101 + 32
+/// assert_eq!(run(&[], 101, 7), Ok(0));
+/// assert_eq!(run(&[0, 9], 101, 7), Err(Refusal::NoChain));
+/// assert_eq!(run(&[9, 0], 7, 7), Err(Refusal::NoResidue));
+/// ```
+pub fn run(parts: &[u16], m: u64, x: u64) -> Result<u64, Refusal> {
+    let mut residue = 0;
+    // Sound: the part numbers are of the length told, and `residue` is a local.
+    let status = unsafe { archive::meltsjuk_run(parts.as_ptr(), parts.len(), m, x, &mut residue) };
+    match status {
+        0 => Ok(residue),
+        8 => Err(Refusal::NoPart),
+        9 => Err(Refusal::NoChain),
+        10 => Err(Refusal::LargeSum),
+        13 => Err(Refusal::BadModulus),
+        14 => Err(Refusal::NoResidue),
+        _ => unreachable!("a run has no other answer"),
+    }
+}
+
+/// The services that are lent memory, with that memory.
 #[derive(Clone, Debug)]
 pub struct Terminal {
     scratch: Vec<u64>,

@@ -119,7 +119,7 @@ module _ (k : Kind) (front mid xs : List ℕ) (f m : ℕ) (few : length xs ≤ 2
       ∙ rw (← add-zero f) (field-after f 0 1 front (digitsOf 2 (length xs) ++ rest) front-long)
       ∙ field-first 1 (length xs) rest (omega arith))
 
-  items-line-fit : Fit (itemsLine k front mid xs) k
+  pub items-line-fit : Fit (itemsLine k front mid xs) k
   unfolding itemsLine bytesIn
   items-line-fit =
       let n = length-items in
@@ -130,7 +130,7 @@ module _ (k : Kind) (front mid xs : List ℕ) (f m : ℕ) (few : length xs ≤ 2
         long = n ∙ rw (items-count, items-place);
       }
 
-  items-values : Fitting width xs → itemsIn k (itemsLine k front mid xs) ≡ xs
+  pub items-values : Fitting width xs → itemsIn k (itemsLine k front mid xs) ≡ xs
   unfolding itemsIn itemsLine
   items-values fits =
       let a = digitsOf 2 (rowOf k .byte) in
@@ -208,8 +208,12 @@ past-count n i f g l = at-reply n i f g ∙ rw (at-past n i l)
 
 -- ---- from a reply to other lines
 
--- The lines of kinds 03 and 04 made of what stands in ds, n and position or the part numbers, are served with ds.
+-- n and the part numbers of one of its chains stand in ds. The lines of kinds 03 and 04 made of what stands there, n and position
+-- or the part numbers, are served with ds.
 pub record Leads (ds : List ℕ) : Type 0 where
+  pub chain : List Part
+  pub sums : ChainOf (field ds 1 8) chain
+  pub numbers : fields ds headBytes 2 (field ds partsAt 1) ≡ map partNumber chain
   pub placed : replyTo (atLine (field ds 1 8) (field ds positionAt 8)) ≡ servedWith ds
   pub burned : replyTo (recordLine (fields ds headBytes 2 (field ds partsAt 1))) ≡ servedWith ds
 
@@ -220,6 +224,9 @@ chain-leads n c h f =
     let r : ChainRead n (position n c) (map partNumber c) ds = rw append-nil at (reply-read n c [] h f) in
     let l = chain-lines n c h f in
     record {
+      chain = c;
+      sums = rw (r .number) h;
+      numbers = rw (r .parts) (r .each);
       placed = rw (r .number, r .position-read) (l .placed);
       burned = rw (r .parts, r .each) (l .burned);
     }

@@ -1,6 +1,7 @@
 -- Digits that were written, read back as the fields of a line: what a person or a program finds in a reply.
 --
--- In this order: a field after others, and the first one; values one after the other; a count, a chain, and a chain with its price.
+-- In this order: a field after others, and the first one; values one after the other; a single number, a chain, and a chain with its
+-- price.
 use mathlib.Core.Path.{_≡_, refl, ap, _∙_}
 use mathlib.Core.List.{List, [], _∷_, _++_, append-nil, append-assoc}
 use Prim.Native.Nat.{ℕ, zero, suc, _+_, _*_, _^_, _≤_, _<_}
@@ -11,7 +12,7 @@ use lib.Seq.{take-at, drop-append-add}
 use Rattle.digits.specs.Digits.{digitsOf}
 use Rattle.digits.specs.DigitLaws.{length-digits, number-digits}
 use Rattle.lines.specs.Lines.{field, fields}
-use Rattle.frames.specs.ReplyDigits.{countDigits, valuesDigits, numbersDigits, headDigits, positionAt, partsAt, headBytes, chainDigits}
+use Rattle.frames.specs.ReplyDigits.{singleDigits, valuesDigits, numbersDigits, headDigits, positionAt, partsAt, headBytes, chainDigits}
 use Rattle.frames.specs.ReplyDigits.{pricedDigits}
 use Rattle.frames.specs.ReplyDigitLaws.{length-head, length-chain}
 
@@ -58,12 +59,12 @@ fields-first width (x ∷ xs) l h =
 
 -- ---- replies
 
-pub count-read : (count : ℕ) → count < 2 ^ 64 → (field (countDigits count) 0 1 ≡ 0) × (field (countDigits count) 1 8 ≡ count)
-unfolding countDigits
-count-read count h = (
-  field-first 1 0 (digitsOf 16 count) (omega arith),
-  rw (← append-nil (digitsOf 16 count))
-      (field-after 1 0 8 (digitsOf 2 0) (digitsOf 16 count ++ []) (length-digits 2 0) ∙ field-first 8 count [] (omega arith)),
+pub single-read : (x : ℕ) → x < 2 ^ 64 → (field (singleDigits x) 0 1 ≡ 0) × (field (singleDigits x) 1 8 ≡ x)
+unfolding singleDigits
+single-read x h = (
+  field-first 1 0 (digitsOf 16 x) (omega arith),
+  rw (← append-nil (digitsOf 16 x))
+      (field-after 1 0 8 (digitsOf 2 0) (digitsOf 16 x ++ []) (length-digits 2 0) ∙ field-first 8 x [] (omega arith)),
 )
 
 -- What a chain's digits are read back as: 00, n, its position, how many parts it has, their numbers.

@@ -1,6 +1,6 @@
--- Which numbers a line can be refused with, by its shape and kind by kind (`reply-refusals`). So it is refused with 2 to 11 only
--- (`reply-refusal`): 1 is for too little lent, and 12 for the plain count, which no line asks for. It is refused with 3 exactly
--- where its length is proper and a character is no digit (`reply-no-digit`).
+-- Which numbers a line can be refused with, by its shape and kind by kind (`reply-refusals`). So it is refused with numbers of the
+-- tables only (`reply-refusal`), and each leaves the same behind (`refused-leaves`). It is refused with 3 exactly where its length
+-- is proper and a character is no digit (`reply-no-digit`).
 use mathlib.Core.Path.{_≡_, refl, ap, subst, _∙_}
 use mathlib.Core.Logic.{_↔_, _⊎_, inl, inr, ⊎-elim}
 use mathlib.Core.Bool.{Bool, true, false, not, cond, _&&_, and-eq-true-iff}
@@ -11,11 +11,12 @@ use native.Mathlib.Omega.{arith}
 use borrow.Author.Tests.{leb-true, eqb-true, not-true}
 use lib.Dec.{T, leb, eqb}
 use lib.ListN.{length}
-use Rattle.digits.specs.Digits.{every, allDigits}
+use Rattle.lent.specs.Lent.{filled}
+use Rattle.digits.specs.Digits.{every, allDigits, digitsOf}
 use Rattle.lines.specs.Kinds.{Kind, kinds, kindOf}
 use Rattle.lines.specs.Lines.{Shape, unfit, fit, field, bytesIn, badLength, Proper, shapeOfKind, shapeOf}
 use Rattle.lines.specs.LineLaws.{passes, each-kind, no-digit}
-use Rattle.frames.specs.Replies.{refusedAs, served, replyRowOf, refusalsOf, replyByShape, replyTo}
+use Rattle.frames.specs.Replies.{refusedAs, digitsIn, served, replyRowOf, refusalsOf, replyByShape, replyTo, replyOf, outLeft}
 use Rattle.frames.specs.ServedLaws.{among, ReplyIn, made}
 
 -- A line that is not fit: its length, a character, its kind.
@@ -54,34 +55,44 @@ reply-refusals line r e = go (shapeOf line) refl (of-shape line)
         inl (subst (λ (x : ℕ). T (among x shapeRefusals)) same (subst (ShapeIn shapeRefusals) g h))
     go (fit k) g h = inr (k, g, subst (ReplyIn (refusalsOf k)) (rw g at e) (made k line .refusal))
 
--- All of them are from 2 to 11.
-abbrev pub OfLines : ℕ → Type 0
-OfLines r = (2 ≤ r) × (r ≤ 11)
+-- The refusals of lines in the tables of document 01 and document 02. 1 is for too little lent, and 12 for the plain count, which
+-- no line asks for.
+unfoldable pub lineRefusals : List ℕ
+lineRefusals = 2 ∷ 3 ∷ 4 ∷ 5 ∷ 6 ∷ 7 ∷ 8 ∷ 9 ∷ 10 ∷ 11 ∷ 13 ∷ 14 ∷ []
 
-isOfLines : ℕ → Bool
-isOfLines x = leb 2 x && leb x 11
-
-among-of-lines : (r : ℕ) (xs : List ℕ) → every isOfLines xs ≡ true → T (among r xs) → OfLines r
-unfolding among every isOfLines
-among-of-lines r [] e t = absurd t
-among-of-lines r (x ∷ xs) e t = go (among-of-lines r xs) (eqb r x) refl
+-- A number among some that all pass a test passes it.
+among-passes : (p : ℕ → Bool) (r : ℕ) (xs : List ℕ) → every p xs ≡ true → T (among r xs) → p r ≡ true
+unfolding among every
+among-passes p r [] e t = absurd t
+among-passes p r (x ∷ xs) e t = go (among-passes p r xs) (eqb r x) refl
   where
-    both : (isOfLines x ≡ true) × (every isOfLines xs ≡ true)
-    both = and-eq-true-iff (isOfLines x) (every isOfLines xs) .0 e
+    both : (p x ≡ true) × (every p xs ≡ true)
+    both = and-eq-true-iff (p x) (every p xs) .0 e
 
-    go : (every isOfLines xs ≡ true → T (among r xs) → OfLines r) → (b : Bool) → eqb r x ≡ b → OfLines r
-    go later true h =
-        let f = and-eq-true-iff (leb 2 x) (leb x 11) .0 (both .0) in
-        omega (arith, eqb-true r x h, leb-true 2 x (f .0), leb-true x 11 (f .1))
+    go : (every p xs ≡ true → T (among r xs) → p r ≡ true) → (b : Bool) → eqb r x ≡ b → p r ≡ true
+    go later true h = ap p (eqb-true r x h) ∙ both .0
     go later false h = later (both .1) (rw h at t)
 
-pub reply-refusal : (line : List ℕ) (r : ℕ) → replyTo line ≡ refusedAs r → OfLines r
-unfolding shapeRefusals replyRowOf every isOfLines passes kinds
+-- A line is refused with a number of the tables only.
+pub reply-refusal : (line : List ℕ) (r : ℕ) → replyTo line ≡ refusedAs r → T (among r lineRefusals)
+unfolding shapeRefusals lineRefusals replyRowOf among every passes kinds
 reply-refusal line r e =
-    ⊎-elim (λ (t : T (among r shapeRefusals)). among-of-lines r shapeRefusals refl t)
+    let known : ℕ → Bool = λ x. among x lineRefusals in
+    ⊎-elim (λ (t : T (among r shapeRefusals)). rw (among-passes known r shapeRefusals refl t) tt)
     (λ (f : (k : Kind) × (shapeOf line ≡ fit k) × T (among r (refusalsOf k))).
-    among-of-lines r (refusalsOf (f .0)) (each-kind (λ (k : Kind). every isOfLines (refusalsOf k)) refl (f .0)) (f .2))
+    rw (among-passes known r (refusalsOf (f .0)) (each-kind (λ (k : Kind). every known (refusalsOf k)) refl (f .0)) (f .2)) tt)
     (reply-refusals line r e)
+
+-- All of them are above 1.
+pub two-or-more : (r : ℕ) → T (among r lineRefusals) → 2 ≤ r
+unfolding lineRefusals every
+two-or-more r t = leb-true 2 r (among-passes (leb 2) r lineRefusals refl t)
+
+-- Each of them leaves the same in the bytes for the reply: its number as two digits, zeros up to 514, and later bytes as they were.
+pub refused-leaves : (line : List ℕ) (r : ℕ) (entry : List ℕ) → replyTo line ≡ refusedAs r
+    → outLeft false line entry ≡ filled 514 (digitsOf 2 r) entry
+unfolding outLeft replyOf digitsIn
+refused-leaves line r entry e = rw e
 
 -- A line with a character that is no digit is refused by its length alone: with 2 or 3.
 pub other-character : (line : List ℕ) → allDigits line ≡ false → replyTo line ≡ refusedAs (cond (badLength (length line)) 2 3)

@@ -1,5 +1,5 @@
--- The reply to a line, from the line's characters alone: document 01, 'Frames' and 'What a refused line or call gets'. It is a
--- function of the line: neither the lines before it nor what the lent memory held has a part in it.
+-- The reply to a line, from the line's characters alone: document 01, 'Frames' and 'What a refused line or call gets'; document 02,
+-- T-02. It is a function of the line: neither the lines before it nor what the lent memory held has a part in it.
 --
 -- In this order: replies and their digits; the replies of each kind, and what they can be; the reply to a line; what a call answers
 -- and leaves behind.
@@ -15,10 +15,13 @@ use Rattle.parts.specs.Parts.{partNumber}
 use Rattle.lent.specs.Lent.{filled}
 use Rattle.ranking.specs.Services.{Outcome, refused, gives, atPosition, ofWord, nextOf, ofRecord}
 use Rattle.best.specs.Chosen.{bestOutcome}
+use Rattle.running.specs.Ran.{ranOf}
+use Rattle.running.specs.declared.Ran.{Ran}
+use Rattle.running.specs.declared.Ran.the-variants as ran
 use Rattle.digits.specs.Digits.{digitsOf}
-use Rattle.lines.specs.Kinds.{Kind, count-line, best-line, at-line, record-line, word-line, next-line}
+use Rattle.lines.specs.Kinds.{Kind, count-line, best-line, at-line, record-line, word-line, next-line, run-line}
 use Rattle.lines.specs.Lines.{field, itemsIn, Shape, unfit, fit, shapeOf}
-use Rattle.frames.specs.ReplyDigits.{countDigits, chainDigits, pricedDigits}
+use Rattle.frames.specs.ReplyDigits.{singleDigits, chainDigits, pricedDigits}
 use Rattle.frames.specs.declared.Replied.{Replied}
 use Rattle.frames.specs.declared.Replied.the-variants as replied
 
@@ -44,6 +47,11 @@ unfoldable pub pricedReply : Prices → Outcome → Reply
 pricedReply π (refused r) = refusedAs r
 pricedReply π (gives n c) = servedWith (pricedDigits n (position n c) (map partNumber c) (price π c))
 
+-- The refusal of a run, or its residue.
+unfoldable pub ranReply : Ran → Reply
+ranReply (ran.Refused r) = refusedAs r
+ranReply (ran.Residue x) = servedWith (singleDigits x)
+
 -- ---- the replies of each kind, and what they can be
 
 -- What a line of kind 02 asks for after n: K, A, B, then d, t, s.
@@ -53,14 +61,22 @@ limitsIn line = record { K = field line 9 1; A = field line 10 1; B = field line
 unfoldable pub pricesIn : List ℕ → Prices
 pricesIn line = record { d = field line 12 2; t = field line 14 2; s = field line 16 2 }
 
+-- What a line of kind 07 asks for before its part numbers: the modulus m and the residue x.
+abbrev pub modulusIn : List ℕ → ℕ
+modulusIn line = field line 1 8
+
+abbrev pub residueIn : List ℕ → ℕ
+residueIn line = field line 9 8
+
 -- The reply to a fit line of a kind, by the services' own definitions.
 unfoldable pub served : Kind → List ℕ → Reply
-served count-line line = servedWith (countDigits (count (field line 1 8)))
+served count-line line = servedWith (singleDigits (count (field line 1 8)))
 served best-line line = pricedReply (pricesIn line) (bestOutcome (field line 1 8) (limitsIn line) (pricesIn line))
 served at-line line = chainReply (atPosition (field line 1 8) (field line 9 8))
 served record-line line = chainReply (ofRecord (itemsIn record-line line))
 served word-line line = chainReply (ofWord (itemsIn word-line line))
 served next-line line = chainReply (nextOf (ofWord (itemsIn next-line line)))
+served run-line line = ranReply (ranOf (itemsIn run-line line) (modulusIn line) (residueIn line))
 
 -- What the reply to a fit line of a kind can be.
 pub record ReplyRow : Type 0 where
@@ -79,6 +95,7 @@ replyRowOf at-line = replyRow (6 ∷ []) true
 replyRowOf record-line = replyRow (8 ∷ 9 ∷ 10 ∷ []) true
 replyRowOf word-line = replyRow (7 ∷ 10 ∷ []) true
 replyRowOf next-line = replyRow (7 ∷ 10 ∷ 11 ∷ []) true
+replyRowOf run-line = replyRow (13 ∷ 14 ∷ 8 ∷ 9 ∷ 10 ∷ []) false
 
 abbrev pub refusalsOf : Kind → List ℕ
 refusalsOf k = replyRowOf k .refusals

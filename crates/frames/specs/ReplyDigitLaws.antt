@@ -10,12 +10,12 @@ use lib.ListN.{length, getD, take, length-append}
 use lib.Seq.{take-suc}
 use Rattle.digits.specs.Digits.{every, digitsOf}
 use Rattle.digits.specs.DigitLaws.{every-append, length-digits}
-use Rattle.frames.specs.ReplyDigits.{countDigits, valuesDigits, numbersDigits, headDigits, headBytes, chainDigits}
+use Rattle.frames.specs.ReplyDigits.{singleDigits, valuesDigits, numbersDigits, headDigits, headBytes, chainDigits}
 use Rattle.frames.specs.ReplyDigits.{pricedDigits}
 
-pub length-count : (count : ℕ) → length (countDigits count) ≡ 18
-unfolding countDigits
-length-count count = simp (length-append, length-digits)
+pub length-single : (x : ℕ) → length (singleDigits x) ≡ 18
+unfolding singleDigits
+length-single x = simp (length-append, length-digits)
 
 pub length-values : (width : ℕ) (xs : List ℕ) → length (valuesDigits width xs) ≡ 2 * width * length xs
 unfolding valuesDigits

@@ -5,9 +5,9 @@ use Prim.Native.Nat.{ℕ, _+_, _*_}
 use lib.ListN.{length}
 use Rattle.digits.specs.Digits.{digitsOf}
 
--- A count: 00, then the count.
-unfoldable pub countDigits : ℕ → List ℕ
-countDigits count = digitsOf 2 0 ++ digitsOf 16 count
+-- A single number, a count or the residue of a run: 00, then the number.
+unfoldable pub singleDigits : ℕ → List ℕ
+singleDigits x = digitsOf 2 0 ++ digitsOf 16 x
 
 -- Values of `width` bytes each, one after the other; part numbers have two.
 unfoldable pub valuesDigits : ℕ → List ℕ → List ℕ

@@ -22,15 +22,19 @@ use Rattle.ranking.specs.Outcomes.{standing-refused, at-gives, of-gives, next-g
 use Rattle.ranking.specs.Refusals.{word-refusals, next-refusals, record-refusals}
 use Rattle.best.specs.Chosen.{orNone, bestOutcome}
 use Rattle.best.specs.Demand3.{given-is-best}
+use Rattle.running.specs.Ran.{ranOf}
+use Rattle.running.specs.RanLaws.{run-refusals}
+use Rattle.running.specs.declared.Ran.{Ran}
+use Rattle.running.specs.declared.Ran.the-variants as ran
 use Rattle.digits.specs.Digits.{isWritten, every, digitsOf}
 use Rattle.digits.specs.DigitLaws.{every-append, length-digits, written-digits}
-use Rattle.lines.specs.Kinds.{Kind, count-line, best-line, at-line, record-line, word-line, next-line}
+use Rattle.lines.specs.Kinds.{Kind, count-line, best-line, at-line, record-line, word-line, next-line, run-line}
 use Rattle.lines.specs.Lines.{field, itemsIn}
 use Rattle.lines.specs.LineLaws.{field-below}
-use Rattle.frames.specs.ReplyDigits.{countDigits, headDigits, headBytes, chainDigits, pricedDigits}
-use Rattle.frames.specs.ReplyDigitLaws.{length-count, length-chain, length-priced, every-values}
-use Rattle.frames.specs.Replies.{Reply, refusedAs, servedWith, digitsIn, chainReply, pricedReply, limitsIn, pricesIn, served}
-use Rattle.frames.specs.Replies.{ReplyRow, replyRow, replyRowOf}
+use Rattle.frames.specs.ReplyDigits.{singleDigits, headDigits, headBytes, chainDigits, pricedDigits}
+use Rattle.frames.specs.ReplyDigitLaws.{length-single, length-chain, length-priced, every-values}
+use Rattle.frames.specs.Replies.{Reply, refusedAs, servedWith, digitsIn, chainReply, pricedReply, ranReply, limitsIn, pricesIn}
+use Rattle.frames.specs.Replies.{modulusIn, residueIn, served, ReplyRow, replyRow, replyRowOf}
 
 -- ---- refusals among some numbers
 
@@ -130,10 +134,10 @@ frame k ds n h g w = record { even = omega arith; least = omega arith; most = om
 pub refusal-frame : (r : ℕ) → Frame (digitsOf 2 r)
 refusal-frame r = frame 1 (digitsOf 2 r) (length-digits 2 r) (omega arith) (omega arith) (written-digits 2 r)
 
-count-frame : (count : ℕ) → Frame (countDigits count)
-unfolding countDigits
-count-frame count =
-    frame 9 (countDigits count) (length-count count) (omega arith) (omega arith) (simp (every-append, written-digits))
+single-frame : (x : ℕ) → Frame (singleDigits x)
+unfolding singleDigits
+single-frame x =
+    frame 9 (singleDigits x) (length-single x) (omega arith) (omega arith) (simp (every-append, written-digits))
 
 module _ (n position : ℕ) (numbers : List ℕ) (few : length numbers ≤ 64) where
   written-chain : every isWritten (chainDigits n position numbers) ≡ true
@@ -164,7 +168,7 @@ pub record Made (row : ReplyRow) (x : Reply) : Type 0 where
 pub few-numbers : (n : ℕ) (c : List Part) → ChainOf n c → n < 2 ^ 64 → length (map partNumber c) ≤ 64
 few-numbers n c h f = omega (arith, length-map c partNumber, parts-bound n 64 c h f)
 
--- Replies that do not end with a chain; a service's chain; a service's chain with its price.
+-- Replies that do not end with a chain; a service's chain; a service's chain with its price; a run.
 plain : {rs : List ℕ} (x : Reply) → Frame (digitsIn x) → ReplyIn rs x → Made (replyRow rs false) x
 plain x f h = record { framed = f; refusal = h; chain = λ t. absurd t }
 
@@ -181,15 +185,23 @@ priced π (refused r) s = plain (refusedAs r) (refusal-frame r) s
 priced π (gives n c) s =
     plain _ (priced-frame n (position n c) (map partNumber c) (few-numbers n c (s .0) (s .1)) (price π c)) tt
 
+ran-made : {rs : List ℕ} (a : Ran) → ((r : ℕ) → a ≡ ran.Refused r → OneOf r rs) → Made (replyRow rs false) (ranReply a)
+unfolding ranReply digitsIn
+ran-made {rs} (ran.Refused r) h = plain (refusedAs r) (refusal-frame r) (one-among r rs (h r refl))
+ran-made (ran.Residue x) h = plain _ (single-frame x) tt
+
 -- The numbers that stand in a line.
 pub number-low : (line : List ℕ) (at : ℕ) → field line at 8 < 2 ^ 64
 number-low line at = omega (arith, field-below line at 8)
 
 pub made : (k : Kind) (line : List ℕ) → Made (replyRowOf k) (served k line)
 unfolding replyRowOf served digitsIn
-made count-line line = plain _ (count-frame (count (field line 1 8))) tt
+made count-line line = plain _ (single-frame (count (field line 1 8))) tt
 made best-line line = priced (pricesIn line) _ (best-sound (field line 1 8) (limitsIn line) (pricesIn line) (number-low line 1))
 made at-line line = chained _ (at-sound (field line 1 8) (field line 9 8) (number-low line 1))
 made record-line line = chained _ (record-sound (itemsIn record-line line))
 made word-line line = chained _ (word-sound (itemsIn word-line line))
 made next-line line = chained _ (next-sound (itemsIn next-line line))
+made run-line line =
+    ran-made (ranOf (itemsIn run-line line) (modulusIn line) (residueIn line))
+    (run-refusals (itemsIn run-line line) (modulusIn line) (residueIn line) .no-other)

@@ -6,7 +6,7 @@ ghost use lib.ListN.{length};
 ghost use Rattle.digits.specs.Digits.{digitsOf};
 ghost use Rattle.lent.specs.Lent.{zeros};
 ghost use Rattle.frames.specs.Put.{putAt};
-ghost use Rattle.frames.specs.ReplyDigits.{countDigits, headDigits, numbersDigits, chainDigits};
+ghost use Rattle.frames.specs.ReplyDigits.{singleDigits, headDigits, numbersDigits, chainDigits};
 
 // The last k digits of n, after the first `at` bytes. Where the next digits go is told, here and below.
 fn put_at(out: &mut [u8], at: usize, k: usize, n: u64) -> usize
@@ -27,14 +27,14 @@ pub fn put_refusal(out: &mut [u8], r: u8) -> usize
     put_at(out, 0, 2, r as u64)
 }
 
-// 00 and the count.
-pub fn put_count(out: &mut [u8], count: u64) -> usize
+// 00 and a single number.
+pub fn put_single(out: &mut [u8], x: u64) -> usize
     requires { ⌜ 514 ≤ length (now out) ⌝ }
-    ensures { λ k. ⌜ k ≡ length (countDigits count) ⌝ }
-    ensures { λ _. ⌜ now (out .exit) ≡ putAt 0 (countDigits count) (now (out .entry)) ⌝ }
+    ensures { λ k. ⌜ k ≡ length (singleDigits x) ⌝ }
+    ensures { λ _. ⌜ now (out .exit) ≡ putAt 0 (singleDigits x) (now (out .entry)) ⌝ }
 {
     let at = put_at(out, 0, 2, 0);
-    put_at(out, at, 16, count)
+    put_at(out, at, 16, x)
 }
 
 // 00, n, the position and the number of parts.

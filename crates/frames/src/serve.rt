@@ -7,15 +7,18 @@ use best::Prices;
 use counting::Counted;
 use lines::Items;
 use ranking::Placed;
+use running::Ran;
 ghost use mathlib.Core.Path.{_≡_};
+ghost use Prim.Native.Nat.{_≤_};
 ghost use lib.ListN.{length};
 ghost use Rattle.lent.specs.Lent.{tooLittle, Enough, scratchLeft};
 ghost use Rattle.ranking.specs.Services.{lent, placesLeft};
 ghost use Rattle.best.specs.Chosen.{bestOutcome, chosenOf};
-ghost use Rattle.frames.specs.Calls.{Handled, FitAs, readOnly};
-ghost use Rattle.frames.specs.Replies.{refusedAs, limitsIn, pricesIn, served, replyTo};
-ghost use Rattle.lines.specs.Kinds.{count-line, best-line, at-line, record-line, word-line, next-line};
-ghost use Rattle.lines.specs.Lines.{Fit, readItems, itemsLeft};
+ghost use Rattle.running.specs.Ran.{ranOf};
+ghost use Rattle.frames.specs.Calls.{Told, Handled, FitAs, readOnly};
+ghost use Rattle.frames.specs.Replies.{refusedAs, limitsIn, pricesIn, modulusIn, residueIn, served, replyTo};
+ghost use Rattle.lines.specs.Kinds.{count-line, best-line, at-line, record-line, word-line, next-line, run-line};
+ghost use Rattle.lines.specs.Lines.{Fit, itemsIn, readItems, itemsLeft};
 
 // A line that is refused: the scratch is zeroed as on success.
 pub fn serve_refusal(number: u8, scratch: &mut [u64], out: &mut [u8]) -> Replied
@@ -34,7 +37,7 @@ pub fn serve_count(line: &[u8], scratch: &mut [u64], out: &mut [u8]) -> Replied
         (now (scratch .entry)) (now (scratch .exit)) (now (out .entry)) (now (out .exit)) ⌝ }
 {
     match counting::table_count(lines::field_of(line, 1, 8), scratch) {
-        Counted::Count(count) => tell::tell_count(out, count),
+        Counted::Count(count) => tell::tell_single(out, count),
         Counted::Refused(number) => tell::tell_refusal(out, number),
     }
 }
@@ -162,6 +165,41 @@ pub fn serve_next(line: &[u8], scratch: &mut [u64], out: &mut [u8]) -> Replied
     tell::tell_found(out, found, &places)
 }
 
+// The run of the chain that a line of kind 07 names.
+fn run_in(line: &[u8]) -> Ran
+    requires { ⌜ Fit (now line) run-line ⌝ }
+    ensures { λ r. ⌜ r
+        ≡ ranOf (itemsIn run-line (now (line .entry))) (modulusIn (now (line .entry))) (residueIn (now (line .entry))) ⌝ }
+{
+    let mut numbers = [0u16; 255];
+    let k = numbers_in(line, &mut numbers);
+    let m = lines::field_of(line, 1, 8);
+    let x = lines::field_of(line, 9, 8);
+    running::run_chain(&numbers[0..k], m, x)
+}
+
+// Its residue or refusal.
+fn tell_run(line: &[u8], out: &mut [u8]) -> Replied
+    requires { ⌜ (514 ≤ length (now out)) × Fit (now line) run-line ⌝ }
+    ensures { λ r. ⌜ Told (served run-line (now (line .entry))) r (now (out .entry)) (now (out .exit)) ⌝ }
+{
+    match run_in(line) {
+        Ran::Residue(residue) => tell::tell_single(out, residue),
+        Ran::Refused(number) => tell::tell_refusal(out, number),
+    }
+}
+
+// 07: a chain, run on residues. The service is lent no scratch, so the scratch is zeroed here.
+pub fn serve_run(line: &[u8], scratch: &mut [u64], out: &mut [u8]) -> Replied
+    requires { ⌜ Enough 514 (now scratch) (now out) × Fit (now line) run-line ⌝ }
+    ensures { λ r. ⌜ Handled (served run-line (now (line .entry))) r
+        (now (scratch .entry)) (now (scratch .exit)) (now (out .entry)) (now (out .exit)) ⌝ }
+{
+    let replied = tell_run(line, out);
+    lent::clear_u64(&mut scratch[0..lent::SCRATCH]);
+    replied
+}
+
 // A fit line, by the byte of its kind.
 pub fn serve_kind(kind: u8, line: &[u8], scratch: &mut [u64], out: &mut [u8]) -> Replied
     requires { ⌜ Enough 514 (now scratch) (now out) × FitAs kind (now line) ⌝ }
@@ -175,6 +213,7 @@ pub fn serve_kind(kind: u8, line: &[u8], scratch: &mut [u64], out: &mut [u8]) ->
         4 => serve_record(line, scratch, out),
         5 => serve_word(line, scratch, out),
         6 => serve_next(line, scratch, out),
+        7 => serve_run(line, scratch, out),
         // No other byte is that of a kind.
         _ => serve_refusal(4, scratch, out),
     }

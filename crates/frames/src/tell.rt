@@ -5,7 +5,7 @@ use ranking::Found;
 ghost use Prim.Native.Nat.{_≤_};
 ghost use lib.ListN.{length};
 ghost use Rattle.frames.specs.Replies.{refusedAs, servedWith};
-ghost use Rattle.frames.specs.ReplyDigits.{countDigits, chainDigits, pricedDigits};
+ghost use Rattle.frames.specs.ReplyDigits.{singleDigits, chainDigits, pricedDigits};
 ghost use Rattle.frames.specs.Calls.{Told, partsIn, foundReply};
 
 // A refused line.
@@ -18,12 +18,12 @@ pub fn tell_refusal(out: &mut [u8], number: u8) -> Replied
     Replied::Refused(number)
 }
 
-// A count.
-pub fn tell_count(out: &mut [u8], count: u64) -> Replied
+// A single number: a count, or the residue of a run.
+pub fn tell_single(out: &mut [u8], x: u64) -> Replied
     requires { ⌜ 514 ≤ length (now out) ⌝ }
-    ensures { λ r. ⌜ Told (servedWith (countDigits count)) r (now (out .entry)) (now (out .exit)) ⌝ }
+    ensures { λ r. ⌜ Told (servedWith (singleDigits x)) r (now (out .entry)) (now (out .exit)) ⌝ }
 {
-    let k = put::put_count(out, count);
+    let k = put::put_single(out, x);
     put::fill(out, k);
     Replied::Digits(k as u64)
 }

@@ -1,4 +1,5 @@
--- The kinds of lines and how a line of each is laid out: document 01, 'Frames'. Nothing else says which kinds there are.
+-- The kinds of lines and how a line of each is laid out: document 01, 'Frames', and document 02, T-02. Nothing else says which kinds
+-- there are.
 -- Definitions only.
 use mathlib.Core.Bool.{true, false}
 use mathlib.Core.List.{List, [], _∷_}
@@ -6,9 +7,9 @@ use mathlib.Core.Option.{Option, none, some}
 use Prim.Native.Nat.{ℕ}
 use lib.Dec.{eqb}
 
--- A count, the best chain, the chain at a position, a burned record, a word, the chain next to a word's.
+-- A count, the best chain, the chain at a position, a burned record, a word, the chain next to a word's, a chain to run.
 pub data Kind : Type 0 where
-  count-line best-line at-line record-line word-line next-line : Kind
+  count-line best-line at-line record-line word-line next-line run-line : Kind
 
 -- How a line of a kind is laid out. Items are a record's part numbers or a word's letters. In a kind without items all bytes stand
 -- before them, and their width is 0.
@@ -32,9 +33,10 @@ rowOf at-line = row 3 17 0 0
 rowOf record-line = row 4 2 1 2
 rowOf word-line = row 5 2 1 1
 rowOf next-line = row 6 2 1 1
+rowOf run-line = row 7 18 17 2
 
 unfoldable pub kinds : List Kind
-kinds = count-line ∷ best-line ∷ at-line ∷ record-line ∷ word-line ∷ next-line ∷ []
+kinds = count-line ∷ best-line ∷ at-line ∷ record-line ∷ word-line ∷ next-line ∷ run-line ∷ []
 
 -- The first of some kinds that has a byte.
 unfoldable pub kindAmong : List Kind → ℕ → Option Kind

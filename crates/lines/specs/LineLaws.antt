@@ -17,8 +17,8 @@ use lib.Seq.{take-all, take-nil, drop-cons}
 use Rattle.lent.specs.LentLaws.{neither}
 use Rattle.digits.specs.Digits.{valueOr0, allDigits, numberOf, readFrom}
 use Rattle.digits.specs.DigitLaws.{number-below, number-fits}
-use Rattle.lines.specs.Kinds.{Kind, count-line, best-line, at-line, record-line, word-line, next-line, Row, rowOf, kinds}
-use Rattle.lines.specs.Kinds.{kindAmong, kindOf}
+use Rattle.lines.specs.Kinds.{Kind, count-line, best-line, at-line, record-line, word-line, next-line, run-line}
+use Rattle.lines.specs.Kinds.{Row, rowOf, kinds, kindAmong, kindOf}
 use Rattle.lines.specs.Lines.{field, fields, bytesIn, itemsIn, Shape, unfit, fit, badLength, Proper, shapeOfKind, shapeOf}
 use Rattle.lines.specs.Lines.{shapeCode}
 use Rattle.lines.specs.Lines.{Fit, unread, read, itemsOfKind, readItems}
@@ -97,6 +97,7 @@ kind-byte at-line = refl
 kind-byte record-line = refl
 kind-byte word-line = refl
 kind-byte next-line = refl
+kind-byte run-line = refl
 
 -- A test passes for each of some kinds.
 unfoldable pub passes : (Kind → Bool) → List Kind → Bool

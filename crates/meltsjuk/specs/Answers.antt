@@ -1,8 +1,8 @@
 -- What the functions for C and Rust answer: a service's answer, case by case, as a number and as numbers put where the caller asks.
--- A refusal leaves those as they were. Document 01, 'What a refused line or call gets', has the refusals' numbers; of the count and
--- the best chain 0 says that the call was served.
+-- A refusal leaves those as they were. Document 01, 'What a refused line or call gets', and document 02 have the refusals' numbers;
+-- of the count, the best chain and the run 0 says that the call was served.
 --
--- In this order: the reply to a line, the count, the best chain. Definitions only.
+-- In this order: the reply to a line, the count, the best chain, the run of a chain. Definitions only.
 use mathlib.Core.Bool.{Bool, true, false}
 use mathlib.Core.List.{List}
 use Prim.Native.Nat.{ℕ}
@@ -12,6 +12,8 @@ use Rattle.chains.specs.Best.{Prices, Limits, price}
 use Rattle.ranking.specs.Services.{Outcome, refused, gives, lent}
 use Rattle.counting.specs.declared.Counted.{Counted}
 use Rattle.counting.specs.declared.Counted.the-variants.{Count, Refused}
+use Rattle.running.specs.declared.Ran.{Ran}
+use Rattle.running.specs.declared.Ran.the-variants as ran
 use Rattle.best.specs.Chosen.{bestOutcome}
 use Rattle.frames.specs.Replies.{replyOf}
 
@@ -63,3 +65,14 @@ partsOr (gives n c) x = length c
 unfoldable pub priceOr : Prices → Outcome → ℕ → ℕ
 priceOr π (refused r) x = x
 priceOr π (gives n c) x = price π c
+
+-- ---- the run of a chain
+
+unfoldable pub runStatus : Ran → ℕ
+runStatus (ran.Residue m) = 0
+runStatus (ran.Refused r) = r
+
+-- The residue, or x where it is refused.
+unfoldable pub residueOr : Ran → ℕ → ℕ
+residueOr (ran.Residue m) x = m
+residueOr (ran.Refused r) x = x

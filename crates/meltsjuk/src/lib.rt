@@ -6,13 +6,16 @@ use best::Limits;
 use best::Prices;
 use counting::Counted;
 use frames::Replied;
+use running::Ran;
 ghost use mathlib.Core.Path.{_≡_};
 ghost use Rattle.lent.specs.Lent.{tooLittle, scratchLeft, littleScratch};
 ghost use Rattle.ranking.specs.Services.{placesLeft};
 ghost use Rattle.counting.specs.TableCount.{countedOf};
 ghost use Rattle.frames.specs.Replies.{outLeft};
+ghost use Rattle.running.specs.Ran.{ranOf};
 ghost use Rattle.meltsjuk.specs.Answers.{digitsOrRefusal, countStatus, countOr};
 ghost use Rattle.meltsjuk.specs.Answers.{limitsOf, pricesOf, bestAsked, bestStatus, positionOr, partsOr, priceOr};
+ghost use Rattle.meltsjuk.specs.Answers.{runStatus, residueOr};
 
 // Replying to one line, without its byte 10, as `frames::reply` does. Answers how many digits the reply in `out` has, two where the
 // line is refused; or 1, which is no length, where too little is lent, and nothing is touched.
@@ -108,5 +111,21 @@ pub extern "C" fn meltsjuk_best(
             0
         }
         Chosen::Refused(number) => number,
+    }
+}
+
+// The chain whose part numbers are `numbers`, largest part first, run on x modulo m, as `running::run_chain` does. Answers 0 with
+// the residue put in `residue`, or 13, 14, 8, 9 or 10, and `residue` is as it was.
+#[no_mangle]
+pub extern "C" fn meltsjuk_run(numbers: &[u16], m: u64, x: u64, residue: &mut u64) -> u8
+    ensures answer { λ r. ⌜ r ≡ runStatus (ranOf (now (numbers .entry)) m x) ⌝ }
+    ensures residue { λ _. ⌜ now (residue .exit) ≡ residueOr (ranOf (now (numbers .entry)) m x) (now (residue .entry)) ⌝ }
+{
+    match running::run_chain(numbers, m, x) {
+        Ran::Residue(run) => {
+            *residue = run;
+            0
+        }
+        Ran::Refused(number) => number,
     }
 }

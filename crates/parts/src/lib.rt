@@ -1,4 +1,5 @@
 // Parts 2^a × 3^b below 2^64 and their numbers in the part table.
+pub mod codes;
 pub mod table;
 
 ghost use mathlib.Core.Logic.{_↔_};

@@ -1,12 +1,14 @@
 -- What the services on words answer and leave behind. What a reader must believe, in this order: Answers (good words, comparing,
--- weighing), Records (a burned record), Conversions (from a record to its word, from a word to its parts). The theorems on them:
+-- weighing), Records (a burned record), Conversions (from a record to its word, from a word to its parts), Packed (a record's word in
+-- two numbers). The theorems on them:
 --   TestLaws     what an answer says of the tests that chose it
 --   CompareLaws  comparing is the dictionary order, and 7
 --   RecordLaws   a record gets its sum exactly if it names a chain
 --   Refusals     which refusal a word and a record get: 7, 8, 9, 10
 --   WordLaws     chains through records and words
+--   PackedLaws   a word is read back from its two numbers
 -- What the private functions cite:
---   Walks        the walk that writes a word
+--   Walks        the walk that writes a word, and the one that packs it
 --   Storing      the walk along a word that stores the numbers of its parts; its laws are in StoringLaws
 pub mod Answers
 pub mod Records
@@ -19,3 +21,5 @@ pub mod WordLaws
 pub mod Walks
 pub mod Storing
 pub mod StoringLaws
+pub mod Packed
+pub mod PackedLaws

@@ -11,7 +11,7 @@ use native.Mathlib.Omega.{arith}
 use lib.Dec.{T, ltb, leb, eqb, ltb→lt, lt→ltb, eqb→eq}
 use lib.Ieee.Bits.{is-true}
 use lib.Ieee.Fits.{and-i, and-l, and-r, eq→eqb}
-use lib.ListN.{length}
+use lib.ListN.{length, getD}
 use borrow.Author.Tests.{ltb-false, leb-false, le-ltb, lt-leb}
 use Rattle.lent.specs.LentLaws.{neither}
 use Rattle.chains.specs.Chains.{Part, value, ProperMultiple, Chained, total}
@@ -71,6 +71,11 @@ in-table l = (there l, back l)
     back : (k : List ℕ) → InTable k → beyond k ≡ false
     back [] t = refl
     back (x ∷ k) t = rw (lt-leb 1344 x (t 0 (omega arith)), back k (λ i h. t (suc i) (omega arith)))
+
+-- Each number of such a record.
+pub number-known : (l : List ℕ) (i : ℕ) → beyond l ≡ false → i < length l → getD l i 0 < 1344
+unfolding InTable
+number-known l i e h = in-table l .0 e i h
 
 -- The sum of the entries that a record names is the sum of its parts.
 pub record-sum : (l : List ℕ) → beyond l ≡ false → sumAt parts l ≡ total (recordParts l)

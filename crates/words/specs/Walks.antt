@@ -1,12 +1,12 @@
--- What the writer of a word's letters keeps on its way. Only private functions cite these definitions; what
--- the services answer and leave behind is in Conversions.
+-- What the writer of a word's letters keeps on its way, and that of its bits. Only private functions cite these definitions; what
+-- the services answer and leave behind is in Conversions and Packed.
 use mathlib.Core.Path.{_≡_}
 use mathlib.Core.Bool.{false}
 use mathlib.Core.List.{List, _∷_, _++_}
-use Prim.Native.Nat.{ℕ, _+_, _≤_}
+use Prim.Native.Nat.{ℕ, _+_, _-_, _*_, _^_, _≤_, _<_}
 use lib.ListN.{take, drop}
 use Rattle.chains.specs.Chains.{Part, Chained, total}
-use Rattle.parts.specs.Table.{parts}
+use Rattle.parts.specs.Codes.{codes}
 use Rattle.parts.specs.declared.Exponents.{Exponents}
 use Rattle.words.specs.Records.{recordParts, beyond, Burned}
 
@@ -30,17 +30,38 @@ pub record OnTheWay (q p : Part) (n : ℕ) : Type 0 where
   pub upward : q .b ≤ p .b
   pub room : place p ≤ n
 
--- The way back from the part p through the numbers of a record l from i on: the table is the part table, the numbers are in it, p
--- and their parts are a chain, and the letters before p have their places among n.
+-- The way back from the part p through the numbers of a record l from i on: the table is that of the codes, the numbers are in the
+-- part table, p and their parts are a chain, and the letters before p have their places among n.
 pub record WayBack (table l : List ℕ) (i : ℕ) (p : Part) (n : ℕ) : Type 0 where
-  pub is-parts : table ≡ parts
+  pub is-codes : table ≡ codes
   pub known : beyond l ≡ false
   pub chained : Chained (p ∷ recordParts (drop i l))
   pub room : place p ≤ n
 
--- A record whose word can be written into n places: the table is the part table, the record names a chain of a number below 2^64,
+-- A record whose word can be written into n places: the table is that of the codes, the record names a chain of a number below 2^64,
 -- and there are 64 places or more.
 pub record Writable (table l : List ℕ) (n : ℕ) : Type 0 where
-  pub is-parts : table ≡ parts
+  pub is-codes : table ≡ codes
   pub burned : Burned l (total (recordParts l))
   pub room : 64 ≤ n
+
+-- ---- from a record to its word in two numbers
+
+-- How many letters stand from q up to p.
+abbrev pub steps : Part → Part → ℕ
+steps q p = (p .b - q .b) + (p .a - q .a)
+
+-- The bits of those letters: b rises first. `sign` is 1 where q is a part. Before them those of later letters.
+abbrev pub risesFrom : Part → Part → ℕ → ℕ
+risesFrom q p later = 2 ^ (p .b - q .b) - 1 + 2 ^ steps q p * later
+
+abbrev pub marksFrom : Part → Part → ℕ → ℕ → ℕ
+marksFrom q p sign later = sign + 2 ^ steps q p * later
+
+-- They fit into 64.
+pub record Joins (q p : Part) (sign rises marks : ℕ) : Type 0 where
+  pub across : q .a ≤ p .a
+  pub upward : q .b ≤ p .b
+  pub few : steps q p < 64
+  pub rises-fit : risesFrom q p rises < 2 ^ 64
+  pub marks-fit : marksFrom q p sign marks < 2 ^ 64

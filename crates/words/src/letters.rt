@@ -1,12 +1,11 @@
 // The letters of a record's word, written from the largest part back: the letter of a point stands at place a + b. Each of the 64
 // places is written, with a letter or with a zero.
+use super::entries;
 use parts::Exponents;
 ghost use mathlib.Core.Path.{_≡_};
 ghost use Prim.Native.Nat.{_-_, _<_, _≤_};
 ghost use lib.ListN.{length, drop, replicate};
 ghost use Rattle.chains.specs.Words.{path, marked, walk, wordOf};
-ghost use Rattle.parts.specs.Table.{parts};
-ghost use Rattle.parts.specs.Parts.{partAt};
 ghost use Rattle.lent.specs.Lent.{filled};
 ghost use Rattle.words.specs.Records.{recordParts};
 ghost use Rattle.words.specs.Walks.{point, place, between, OnTheWay, WayBack, Writable};
@@ -47,16 +46,8 @@ fn write_marked(places: &mut [u8], q: Exponents, p: Exponents)
     places[from] += 1;
 }
 
-// The exponents of the part of a number.
-fn part_of(table: &[u64], number: u16) -> Exponents
-    requires { ⌜ (now table ≡ parts) × (number < 1344) ⌝ }
-    ensures { λ r. ⌜ point r ≡ partAt number ⌝ }
-{
-    parts::exponents_of(parts::value_of(table, number))
-}
-
 // The letters before that of the largest part, from each part back to the next and from the last one to (0, 0).
-fn write_back(table: &[u64], numbers: &[u16], largest: Exponents, places: &mut [u8])
+fn write_back(table: &[u16], numbers: &[u16], largest: Exponents, places: &mut [u8])
     requires { ⌜ WayBack (now table) (now numbers) 1 (point largest) (length (now places)) ⌝ }
     ensures { λ _. ⌜ now (places .exit)
         ≡ walk (point largest) (recordParts (drop 1 (now (numbers .entry))))
@@ -65,7 +56,7 @@ fn write_back(table: &[u64], numbers: &[u16], largest: Exponents, places: &mut [
     let mut p = largest;
     let mut i = 1;
     while i < numbers.len() {
-        let q = part_of(table, numbers[i]);
+        let q = entries::part_of(table, numbers[i]);
         write_marked(places, q, p);
         p = q;
         i += 1;
@@ -74,7 +65,7 @@ fn write_back(table: &[u64], numbers: &[u16], largest: Exponents, places: &mut [
 }
 
 // The letters of a record's word, then zeros up to 64. Tells how many letters there are.
-pub fn write_letters(table: &[u64], numbers: &[u16], places: &mut [u8]) -> u64
+pub fn write_letters(table: &[u16], numbers: &[u16], places: &mut [u8]) -> u64
     requires { ⌜ Writable (now table) (now numbers) (length (now places)) ⌝ }
     ensures { λ r. ⌜ r ≡ length (wordOf (recordParts (now (numbers .entry)))) ⌝ }
     ensures { λ _. ⌜ now (places .exit) ≡ filled 64 (wordOf (recordParts (now (numbers .entry)))) (now (places .entry)) ⌝ }
@@ -83,7 +74,7 @@ pub fn write_letters(table: &[u64], numbers: &[u16], places: &mut [u8]) -> u64
         fill(places, 0, 64, 0);
         return 0;
     }
-    let largest = part_of(table, numbers[0]);
+    let largest = entries::part_of(table, numbers[0]);
     let last = (largest.a + largest.b) as usize;
     places[last] = 3;
     fill(places, last + 1, 64, 0);

@@ -1,6 +1,9 @@
-// Path words: which are good, how two stand in the dictionary, what number a word stands for.
+// Path words: which are good, how two stand in the dictionary, what number a word stands for; and records: what they get, and their
+// words.
+mod entries;
 mod letters;
 mod order;
+mod packing;
 mod readers;
 mod records;
 mod to_parts;
@@ -13,6 +16,7 @@ ghost use Rattle.chains.specs.Words.{reads};
 ghost use Rattle.words.specs.Answers.{comparedOf, weighedOf};
 ghost use Rattle.words.specs.Records.{judgedOf};
 ghost use Rattle.words.specs.Conversions.{writtenOf, lettersLeft, partedOf, numbersLeft};
+ghost use Rattle.words.specs.Packed.{packedOf};
 
 // How a word stands to another, or document 01's number of a refusal.
 pub enum Compared {
@@ -37,6 +41,17 @@ pub enum Judged {
 // How many letters a record's word has, or document 01's number of a refusal.
 pub enum Written {
     Letters(u64),
+    Refused(u8),
+}
+
+// A record's word in two numbers, a bit a letter, the lowest for the first: whether b rises after the letter (2 and 3), and whether
+// it marks a part (1 and 3); and how many letters there are. Or document 01's number of a refusal.
+pub enum Packed {
+    Word {
+        rises: u64,
+        marks: u64,
+        letters: u64,
+    },
     Refused(u8),
 }
 
@@ -85,7 +100,7 @@ pub fn weigh(letters: &[u8]) -> Weighed
 pub fn judge_record(numbers: &[u16]) -> Judged
     ensures { λ r. ⌜ r ≡ judgedOf (now (numbers .entry)) ⌝ }
 {
-    let table = parts::table::copy();
+    let table = parts::codes::copy();
     records::judge(&table, numbers)
 }
 
@@ -100,10 +115,21 @@ pub fn write_word(numbers: &[u16], places: &mut [u8]) -> Written
     if places.len() < 64 {
         return Written::Refused(1);
     }
-    let table = parts::table::copy();
+    let table = parts::codes::copy();
     match records::judge(&table, numbers) {
         Judged::Sum(_) => Written::Letters(letters::write_letters(&table, numbers, places)),
         Judged::Refused(number) => Written::Refused(number),
+    }
+}
+
+// The word of a record in two numbers, or refusal 8, 9 or 10. Nothing is lent for it.
+pub fn pack_word(numbers: &[u16]) -> Packed
+    ensures { λ r. ⌜ r ≡ packedOf (now (numbers .entry)) ⌝ }
+{
+    let table = parts::codes::copy();
+    match records::judge(&table, numbers) {
+        Judged::Sum(_) => packing::pack(&table, numbers),
+        Judged::Refused(number) => Packed::Refused(number),
     }
 }
 

@@ -2,7 +2,7 @@
 use mathlib.Core.Path.{_≡_, refl, sym, _∙_}
 use mathlib.Core.Bool.{Bool, true, false}
 use mathlib.Core.List.{List}
-use Prim.Native.Nat.{ℕ}
+use Prim.Native.Nat.{ℕ, _≤_}
 use native.Mathlib.Omega.{arith}
 use borrow.Author.Needs.{needs}
 use lib.ListN.{length}
@@ -11,20 +11,20 @@ use Rattle.frames.specs.Replies.{Reply, refusedAs, servedWith, digitsIn, replyT
 use Rattle.frames.specs.declared.Replied.{Replied}
 use Rattle.frames.specs.declared.Replied.the-variants as replied
 use Rattle.meltsjuk.specs.Answers.{digitsOrRefusal}
-use Rattle.frames.specs.Refusals.{OfLines, reply-refusal}
+use Rattle.frames.specs.Refusals.{reply-refusal, two-or-more}
 use Rattle.meltsjuk.proofs.meltsjuk_reply.Statement.{statement}
 use Rattle.meltsjuk.proofs.meltsjuk_reply.Tie as tie
 
 -- The answer of `reply` and the number that is told: 1 for refusal 1, two digits for a later refusal, or as many as `reply` tells.
 by-answer : (little : Bool) (line : List ℕ) (P : Replied → ℕ → Type 0) → P (replied.Refused 1) 1
-    → ((r : ℕ) → OfLines r → P (replied.Refused r) 2) → ((k : ℕ) → P (replied.Digits k) k)
+    → ((r : ℕ) → 2 ≤ r → P (replied.Refused r) 2) → ((k : ℕ) → P (replied.Digits k) k)
     → P (answerTo little line) (digitsOrRefusal little line)
 unfolding answerTo repliedOf digitsOrRefusal replyOf digitsIn
 by-answer true line P one later served = one
 by-answer false line P one later served = go (replyTo line) refl
   where
     go : (x : Reply) → replyTo line ≡ x → P (repliedOf x) (length (digitsIn x))
-    go (refusedAs r) e = rw (length-digits 2 r) (later r (reply-refusal line r e))
+    go (refusedAs r) e = rw (length-digits 2 r) (later r (two-or-more r (reply-refusal line r e)))
     go (servedWith ds) e = served (length ds)
 
 module _ (little : Bool) (line : List ℕ) where

@@ -6,7 +6,7 @@ use lib.ListN.{length}
 use borrow.Author.Needs.{needs}
 use borrow.Author.Tests.{lt-ltb, le-ltb}
 use Rattle.chains.specs.Words.{wordOf}
-use Rattle.parts.specs.Table.{parts}
+use Rattle.parts.specs.Codes.{codes}
 use Rattle.lent.specs.Lent.{filled}
 use Rattle.words.specs.Records.{recordParts, judgedOf}
 use Rattle.words.specs.RecordLaws.{judged-sum}
@@ -40,10 +40,10 @@ module _ (l s : List ℕ) where
     refused n e = left-by (written.Refused n) s (answer ∙ rw e refl) refl
 
     module _ (n : ℕ) (e : judgedOf l ≡ judged.Sum n) where
-      able : (t : List ℕ) → t ≡ parts → Writable t l (length s)
+      able : (t : List ℕ) → t ≡ codes → Writable t l (length s)
       able t d =
           let b = judged-sum l n .0 e in
-          record { is-parts = d; burned = rw (b .chain .sums) b; room = room }
+          record { is-codes = d; burned = rw (b .chain .sums) b; room = room }
 
       lettered : (k : ℕ) (r : List ℕ) → k ≡ length (wordOf (recordParts l)) → r ≡ filled 64 (wordOf (recordParts l)) s
           → (written.Letters k ≡ writtenOf l (length s)) × (r ≡ lettersLeft l s (writtenOf l (length s)))

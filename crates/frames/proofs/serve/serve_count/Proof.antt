@@ -15,7 +15,7 @@ use Rattle.counting.specs.declared.Counted.the-variants as counted
 use Rattle.lines.specs.Kinds.{count-line}
 use Rattle.lines.specs.Lines.{field}
 use Rattle.lines.specs.LineLaws.{field-fits}
-use Rattle.frames.specs.ReplyDigits.{countDigits}
+use Rattle.frames.specs.ReplyDigits.{singleDigits}
 use Rattle.frames.specs.Replies.{servedWith, served}
 use Rattle.frames.specs.Calls.{Told, Handled}
 use Rattle.frames.specs.declared.Replied.{Replied}
@@ -29,7 +29,7 @@ module _ (s : List ℕ) (n : ℕ) (a : Counted) (room : scratchSize ≤ length s
 
   count-handled : (line s′ out out′ : List ℕ) (x : ℕ) (r : Replied) → a ≡ counted.Count x → n ≡ field line 1 8 % 2 ^ 64
       → s′ ≡ scratchLeft (littleScratch s) s
-      → Told (servedWith (countDigits x)) r out out′ → Handled (served count-line line) r s s′ out out′
+      → Told (servedWith (singleDigits x)) r out out′ → Handled (served count-line line) r s s′ out out′
   unfolding served
   count-handled line s′ out out′ x r f read left told =
       let same : x ≡ count n = cc answer in
@@ -49,7 +49,7 @@ returns c =
     let s = q .before .before .before .before .before .before in
     count-handled _ _ _ (s .pre .numbers) (q .table-count .ensures .0) _ _ _ _ _ _ (m .count .given .1)
     (q .before .before .field-of .ensures)
-    (q .table-count .ensures .1) (t .tell-count .ensures)
+    (q .table-count .ensures .1) (t .tell-single .ensures)
 
 returns-2 : tie.Need-returns-2
 returns-2 c =

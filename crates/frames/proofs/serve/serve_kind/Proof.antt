@@ -3,7 +3,8 @@ use mathlib.Core.Path.{_≡_, sym}
 use mathlib.Core.List.{List}
 use Prim.Native.Nat.{ℕ}
 use borrow.Author.Needs.{needs}
-use Rattle.lines.specs.Kinds.{Kind, count-line, best-line, at-line, record-line, word-line, next-line, rowOf, kinds}
+use Rattle.lines.specs.Kinds.{Kind, count-line, best-line, at-line, record-line, word-line, next-line, run-line}
+use Rattle.lines.specs.Kinds.{rowOf, kinds}
 use Rattle.lines.specs.Lines.{fit, shapeOf, Fit}
 use Rattle.lines.specs.LineLaws.{fit-line, kind-byte, kind-shape, Left, none-left-fit}
 use Rattle.frames.specs.Replies.{replyTo, served}
@@ -38,6 +39,7 @@ serve-kind-spec =
     (λ c κs. search (needs, fits record-line))
     (λ c κs. search (needs, fits word-line))
     (λ c κs. search (needs, fits next-line))
+    (λ c κs. search (needs, fits run-line))
     (λ c κs. search needs)
     (λ c. search needs)
     (λ c. search needs)
@@ -57,6 +59,9 @@ serve-kind-spec =
     (λ c. search needs)
     (λ c. search needs)
     (λ c. search (needs, handled next-line))
+    (λ c. search needs)
+    (λ c. search needs)
+    (λ c. search (needs, handled run-line))
     (λ c. search needs)
     (λ c. search needs)
     (λ c. search (needs, no-other)))

@@ -12,46 +12,32 @@ use Rattle.chains.specs.Chains.{Part, value, ProperMultiple, Chained}
 use Rattle.chains.specs.Words.{origin, path, marked, walk}
 use Rattle.chains.specs.Divides.{Above, multiple-above}
 use Rattle.parts.specs.Parts.{partAt}
-use Rattle.words.specs.Records.{recordParts, InTable}
-use Rattle.words.specs.RecordLaws.{in-table}
+use Rattle.words.specs.Records.{recordParts}
+use Rattle.words.specs.RecordLaws.{number-known}
 use Rattle.words.specs.Walks.{between, point, place, OnTheWay, WayBack}
+use Rattle.words.proofs.Back.{below, above, next}
 use Rattle.words.proofs.Between.{drop-between}
 use Rattle.words.proofs.letters.write_back.Statement.{statement}
 use Rattle.words.proofs.letters.write_back.Tie as tie
 
-number-known : (t l : List ℕ) (i : ℕ) (p : Part) (n : ℕ) → WayBack t l i p n → i < length l → getD l i 0 < 1344
-unfolding InTable
-number-known t l i p n way h = in-table l .0 (way .known) i h
-
 -- From the part p to the next part q.
 module _ (t l : List ℕ) (i : ℕ) (p : Part) (n : ℕ) (way : WayBack t l i p n) (h : i < length l)
     (q : Part) (e : q ≡ partAt (getD l i 0)) where
-  below : recordParts (drop i l) ≡ q ∷ recordParts (drop (i + 1) l)
-  unfolding recordParts
-  below = rw (add-one, drop-cons l i 0 h, e)
-
-  chained : ProperMultiple (value p) (value q) × Chained (q ∷ recordParts (drop (i + 1) l))
-  chained = subst (λ c. Chained (p ∷ c)) below (way .chained)
-
-  above : Above p q
-  above = multiple-above p q .0 (chained .0)
-
   on-the-way : (m : ℕ) → m ≡ n → OnTheWay q p m × (place q < place p)
-  on-the-way m e = (record { across = above .across; upward = above .upward; room = omega (arith, way .room) }, above .apart)
-
-  next : WayBack t l (i + 1) q n
-  next =
-      record { is-parts = way .is-parts; known = way .known; chained = chained .1; room = omega (arith, above .apart, way .room) }
+  on-the-way m same =
+      let a = above t l i p n way h q e in
+      (record { across = a .across; upward = a .upward; room = omega (arith, way .room) }, a .apart)
 
   -- The places before and after the letters between them.
   step : (s r : List ℕ) → length s ≡ n → r ≡ between (place q) (place p) (marked (path q p)) s
       → walk p (recordParts (drop i l)) (drop (place p) s) ≡ walk q (recordParts (drop (i + 1) l)) (drop (place q) r)
   unfolding walk
   step s r m d =
-      ap (λ c. walk p c (drop (place p) s)) below
+      ap (λ c. walk p c (drop (place p) s)) (below t l i p n way h q e)
       ∙ ap (λ w. walk q (recordParts (drop (i + 1) l)) w)
       (sym (ap (λ x. drop (place q) x) d
-      ∙ drop-between s (place q) (place p) (marked (path q p)) (omega (arith, above .apart, way .room))))
+      ∙ drop-between s (place q) (place p) (marked (path q p))
+      (omega (arith, above t l i p n way h q e .apart, way .room))))
 
 -- No part is left: from the last one to (0, 0).
 to-origin : (t l : List ℕ) (i : ℕ) (p : Part) (n m : ℕ) → WayBack t l i p n → m ≡ n → OnTheWay origin p m
@@ -104,7 +90,7 @@ write-back-spec =
     (λ c. search needs)
     (λ c. search needs)
     (λ c κs. let t = c .before in
-    (t .before .loop .inv .0 .is-parts, number-known _ _ _ _ _ (t .before .loop .inv .0) (t .loop-test .taken)))
+    (t .before .loop .inv .0 .is-codes, number-known _ _ (t .before .loop .inv .0 .known) (t .loop-test .taken)))
     write-marked-requires
     (λ c. search needs)
     (λ c. search needs)

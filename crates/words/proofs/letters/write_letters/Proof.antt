@@ -1,19 +1,17 @@
 -- The largest part's letter and the zeros behind it are the end of the places; the walk back puts the rest of the word before them.
-use mathlib.Core.Path.{_≡_, refl, sym, ap, ap₂, subst, _∙_}
+use mathlib.Core.Path.{_≡_, refl, sym, ap, ap₂, _∙_}
 use mathlib.Core.List.{List, [], _∷_, _++_, append-assoc}
 use Prim.Native.Nat.{ℕ, _+_, _-_, _<_}
 use native.Mathlib.Omega.{arith}
 use lib.ListN.{length, drop, getD, set, replicate, length-set}
-use lib.Seq.{drop-cons}
 use borrow.Author.Needs.{needs}
-use Rattle.chains.specs.Chains.{Part, Chained, total}
+use Rattle.chains.specs.Chains.{Part}
 use Rattle.chains.specs.Words.{Word, origin, path, marked, walk, wordOf}
-use Rattle.chains.specs.Bounds.{word-bound, word-length}
 use Rattle.parts.specs.Parts.{partAt}
 use Rattle.lent.specs.Lent.{zeros, filled}
-use Rattle.words.specs.Records.{recordParts, InTable}
-use Rattle.words.specs.RecordLaws.{in-table}
+use Rattle.words.specs.Records.{recordParts}
 use Rattle.words.specs.Walks.{between, point, place, WayBack, Writable}
+use Rattle.words.proofs.Back.{no-word, known, parted, letters, last, way}
 use Rattle.words.proofs.Between.{run, between-none, between-more, between-join, drop-between}
 use Rattle.words.proofs.letters.write_letters.Statement.{statement}
 use Rattle.words.proofs.letters.write_letters.Tie as tie
@@ -26,69 +24,41 @@ walk-append p (q ∷ c) w t =
     ap (λ v. walk q c v) (sym (append-assoc (marked (path q p)) w t)) ∙ walk-append q c (marked (path q p) ++ w) t
 
 -- The record of the empty chain.
-module _ (l : List ℕ) (none : length l ≡ 0) where
-  no-word : recordParts l ≡ []
-  unfolding recordParts
-  no-word = go l none
-    where
-      go : (k : List ℕ) → length k ≡ 0 → recordParts k ≡ []
-      go [] e = refl
-      go (x ∷ k) e = absurd (omega arith)
+only-zeros : (l : List ℕ) → length l ≡ 0 → (s r : List ℕ) → r ≡ run 0 64 0 s → r ≡ filled 64 (wordOf (recordParts l)) s
+unfolding filled zeros wordOf between
+only-zeros l none s r e = rw (no-word l none) e
 
-  only-zeros : (s r : List ℕ) → r ≡ run 0 64 0 s → r ≡ filled 64 (wordOf (recordParts l)) s
-  unfolding filled zeros wordOf between
-  only-zeros s r e = rw no-word e
+-- A record with a largest part p: the way back from it, in as many places.
+way-in : (t l : List ℕ) (n : ℕ) (able : Writable t l n) (some : length l ≡ 0 → ⊥) (p : Part) (e : p ≡ partAt (getD l 0 0))
+    (m : ℕ) → m ≡ n → WayBack t l 1 p m
+way-in t l n able some p e m same = way t l n able some p e m (omega (arith, last t l n able some p e, able .room))
 
--- A record with a largest part p.
-module _ (t l : List ℕ) (n : ℕ) (able : Writable t l n) (some : length l ≡ 0 → ⊥) where
-  known : getD l 0 0 < 1344
-  unfolding InTable
-  known = able .burned .known 0 (omega arith)
+-- s at entry, r with the last letter and the zeros.
+module _ (t l : List ℕ) (n : ℕ) (able : Writable t l n) (some : length l ≡ 0 → ⊥) (p : Part) (e : p ≡ partAt (getD l 0 0))
+    (s r : List ℕ) (same : length s ≡ n) (er : r ≡ run (place p + 1) 64 0 (set s (place p) 3)) where
+  last-place : place p < 64
+  last-place = last t l n able some p e
 
-  module _ (p : Part) (e : p ≡ partAt (getD l 0 0)) where
-    parted : recordParts l ≡ p ∷ recordParts (drop 1 l)
-    unfolding recordParts
-    parted = ap (λ k. recordParts k) (drop-cons l 0 0 (omega arith)) ∙ rw e refl
+  end : drop (place p) r ≡ (3 ∷ []) ++ (zeros (64 - (place p + 1)) ++ drop 64 s)
+  unfolding zeros
+  end =
+      let room = able .room in
+      let here = place p in
+      let one : set s here 3 ≡ between here (here + 1) (3 ∷ []) s =
+      ap (λ z. set z here 3) (between-none s here)
+      ∙ between-more s here here [] (omega arith) (omega (arith, last-place)) (omega arith) 3 (omega (arith, last-place)) in
+      ap (λ z. drop here z) (er ∙ ap (λ z. run (here + 1) 64 0 z) one
+      ∙ between-join s here (here + 1) (3 ∷ []) (omega arith) (omega (arith, last-place)) (omega arith) 64
+      (replicate (64 - (here + 1)) 0) (omega (arith, last-place)) (omega (arith, room)))
+      ∙ drop-between s here 64 ((3 ∷ []) ++ replicate (64 - (here + 1)) 0) (omega (arith, last-place))
 
-    chained : Chained (p ∷ recordParts (drop 1 l))
-    chained = subst Chained parted (able .burned .chain .chained)
-
-    letters : length (wordOf (recordParts l)) ≡ place p + 1
-    letters = ap (λ c. length (wordOf c)) parted ∙ word-length p (recordParts (drop 1 l)) chained
-
-    last : place p < 64
-    last = omega (arith, letters, word-bound (total (recordParts l)) 64 (recordParts l) (able .burned .chain) (able .burned .fits))
-
-    way : (m : ℕ) → m ≡ n → WayBack t l 1 p m
-    way m same = record {
-      is-parts = able .is-parts;
-      known = in-table l .1 (able .burned .known);
-      chained = chained;
-      room = omega (arith, last, able .room);
-    }
-
-    -- s at entry, r with the last letter and the zeros.
-    module _ (s r : List ℕ) (same : length s ≡ n) (er : r ≡ run (place p + 1) 64 0 (set s (place p) 3)) where
-      end : drop (place p) r ≡ (3 ∷ []) ++ (zeros (64 - (place p + 1)) ++ drop 64 s)
-      unfolding zeros
-      end =
-          let room = able .room in
-          let here = place p in
-          let one : set s here 3 ≡ between here (here + 1) (3 ∷ []) s =
-          ap (λ z. set z here 3) (between-none s here)
-          ∙ between-more s here here [] (omega arith) (omega (arith, last)) (omega arith) 3 (omega (arith, last)) in
-          ap (λ z. drop here z) (er ∙ ap (λ z. run (here + 1) 64 0 z) one
-          ∙ between-join s here (here + 1) (3 ∷ []) (omega arith) (omega (arith, last)) (omega arith) 64
-          (replicate (64 - (here + 1)) 0) (omega (arith, last)) (omega (arith, room)))
-          ∙ drop-between s here 64 ((3 ∷ []) ++ replicate (64 - (here + 1)) 0) (omega (arith, last))
-
-      whole : (x : List ℕ) → x ≡ walk p (recordParts (drop 1 l)) (drop (place p) r) → x ≡ filled 64 (wordOf (recordParts l)) s
-      unfolding filled wordOf
-      whole x ex =
-          ex
-          ∙ ap (λ w. walk p (recordParts (drop 1 l)) w) end
-          ∙ walk-append p (recordParts (drop 1 l)) (3 ∷ []) (zeros (64 - (place p + 1)) ++ drop 64 s)
-          ∙ ap₂ (λ c k. wordOf c ++ (zeros (64 - k) ++ drop 64 s)) (sym parted) (sym letters)
+  whole : (x : List ℕ) → x ≡ walk p (recordParts (drop 1 l)) (drop (place p) r) → x ≡ filled 64 (wordOf (recordParts l)) s
+  unfolding filled wordOf
+  whole x ex =
+      ex
+      ∙ ap (λ w. walk p (recordParts (drop 1 l)) w) end
+      ∙ walk-append p (recordParts (drop 1 l)) (3 ∷ []) (zeros (64 - (place p + 1)) ++ drop 64 s)
+      ∙ ap₂ (λ c k. wordOf c ++ (zeros (64 - k) ++ drop 64 s)) (sym (parted t l n able some p e)) (sym (letters t l n able some p e))
 
 -- ---- the function
 
@@ -109,7 +79,7 @@ write-back-requires c κs =
     let q = c .before .before .before .before .before .before in
     let f = q .before .before in
     let s = f .before .before .before .before in
-    way _ _ _ (s .pre) (f .if1 .left) _ (q .part-of .ensures) _ (c .before .before .before .fill2 .kept .0 ∙ simp length-set)
+    way-in _ _ _ (s .pre) (f .if1 .left) _ (q .part-of .ensures) _ (c .before .before .before .fill2 .kept .0 ∙ simp length-set)
 
 returns-2 : tie.Need-returns-2
 returns-2 c =
@@ -130,7 +100,7 @@ write-letters-spec =
     (λ c. search needs)
     returns
     (λ c. search needs)
-    (λ c κs. let s = c .before .before .before .before .before in (s .pre .is-parts, known _ _ _ (s .pre) (c .before .if1 .left)))
+    (λ c κs. let s = c .before .before .before .before .before in (s .pre .is-codes, known _ _ _ (s .pre) (c .before .if1 .left)))
     (λ c. omega (arith, placed (c .before)))
     (λ c. omega (arith, placed (c .before), c .before .before .before .before .before .before .before .pre .room))
     (λ c. omega (arith, placed (c .before .before)))

@@ -1,5 +1,5 @@
 -- The pairs passed are all proper multiples, so what is left of the record, from the last number passed on, decides: this is the
--- invariant. The values come from the table's entries, which are those of the parts.
+-- invariant. A part is a proper multiple of another exactly if it stands above it.
 use mathlib.Core.Path.{_≡_, refl, sym, ap, ap₂, _∙_}
 use mathlib.Core.Logic.{_↔_, Iff·trans, Iff·symm}
 use mathlib.Core.Bool.{Bool, true, false, _&&_, false≢true}
@@ -11,19 +11,19 @@ use lib.ListN.{length, drop, getD, length-drop}
 use lib.Seq.{drop-cons}
 use borrow.Author.Needs.{needs}
 use borrow.Author.Tests.{not-true, not-false}
-use Rattle.chains.specs.Chains.{value, ProperMultiple}
-use Rattle.chains.specs.Divides.{value-pos}
-use Rattle.parts.specs.Table.{parts}
+use Rattle.chains.specs.Chains.{Part, value}
+use Rattle.chains.specs.Divides.{Above, value-pos, multiple-above}
 use Rattle.parts.specs.Parts.{partAt}
-use Rattle.parts.specs.Numbers.{part-value}
-use Rattle.words.specs.Records.{recordParts, InTable, beyond, chainedTest}
-use Rattle.words.specs.RecordLaws.{in-table, test-multiple}
+use Rattle.words.specs.Records.{recordParts, chainedTest}
+use Rattle.words.specs.RecordLaws.{number-known, test-multiple}
 use Rattle.words.proofs.records.is_chained.Statement.{statement}
 use Rattle.words.proofs.records.is_chained.Tie as tie
 
 -- The answer for a pair is the test's own.
-pair : (x y u v : ℕ) (r : Bool) → x ≡ u → y ≡ v → 0 < v → (r ≡ true) ↔ ProperMultiple x y → r ≡ (ltb v u && eqb (u % v) 0)
-pair x y u v r eu ev h told = same r (ltb v u && eqb (u % v) 0) (Iff·trans (rw (eu, ev) at told) (Iff·symm (test-multiple u v h)))
+pair : (p q : Part) (r : Bool) → (r ≡ true) ↔ Above p q → r ≡ (ltb (value q) (value p) && eqb (value p % value q) 0)
+pair p q r told =
+    same r (ltb (value q) (value p) && eqb (value p % value q) 0)
+    (Iff·trans told (Iff·symm (Iff·trans (test-multiple (value p) (value q) (value-pos q)) (multiple-above p q))))
   where
     same : (a b : Bool) → (a ≡ true) ↔ T b → a ≡ b
     same true true e = refl
@@ -31,29 +31,18 @@ pair x y u v r eu ev h told = same r (ltb v u && eqb (u % v) 0) (Iff·trans (rw 
     same false true e = absurd (false≢true (e .1 tt))
     same false false e = refl
 
--- The entry of a part number.
-entry : (l : List ℕ) (i : ℕ) → beyond l ≡ false → i < length l → (t : List ℕ) → t ≡ parts → (x : ℕ) → x ≡ getD t (getD l i 0) 0
-    → x ≡ value (partAt (getD l i 0))
-unfolding InTable
-entry l i known h t e x d =
-    d ∙ ap (λ (s : List ℕ). getD s (getD l i 0) 0) e ∙ sym (part-value (getD l i 0) (in-table l .0 known i h))
-
--- One pair more: r is the answer for the numbers before i and at i.
-module _ (l : List ℕ) (i : ℕ) (h : 0 < i) (k : i < length l) (known : beyond l ≡ false)
+-- One pair more: r is the answer for the parts before i and at i.
+module _ (l : List ℕ) (i : ℕ) (h : 0 < i) (k : i < length l)
     (left : chainedTest (recordParts l) ≡ chainedTest (recordParts (drop (i - 1) l)))
-    (t : List ℕ) (e : t ≡ parts) (x y : ℕ) (ex : x ≡ getD t (getD l (i - 1) 0) 0) (ey : y ≡ getD t (getD l i 0) 0)
-    (r : Bool) (told : (r ≡ true) ↔ ProperMultiple x y) where
+    (p q : Part) (ep : p ≡ partAt (getD l (i - 1) 0)) (eq : q ≡ partAt (getD l i 0)) (r : Bool) (told : (r ≡ true) ↔ Above p q) where
   next : chainedTest (recordParts l) ≡ (r && chainedTest (recordParts (drop i l)))
   unfolding chainedTest recordParts
   next =
-      let p = partAt (getD l (i - 1) 0) in
-      let q = partAt (getD l i 0) in
       let at : suc (i - 1) ≡ i = omega arith in
       let here = drop-cons l i 0 k in
       let two : drop (i - 1) l ≡ getD l (i - 1) 0 ∷ getD l i 0 ∷ drop (suc i) l =
       rw (drop-cons l (i - 1) 0 (omega arith), at, here) refl in
-      let ep = entry l (i - 1) known (omega arith) t e x ex in
-      let told-here = pair x y (value p) (value q) r ep (entry l i known k t e y ey) (value-pos q) told in
+      let told-here = rw (ep, eq) at (pair p q r told) in
       left
       ∙ ap (λ w. chainedTest (recordParts w)) two
       ∙ ap₂ (λ b w. b && chainedTest (recordParts w)) (sym told-here) (sym here)
@@ -80,21 +69,17 @@ abbrev μ-loop : tie.MeasureT-loop
 returns : tie.Need-returns Inv-loop μ-loop
 returns c =
     let m = c .before in
-    let x = m .before .before .before in
-    let t = x .before .before in
-    let s = t .before .before .before .before in
-    failed _ _ (t .before .loop .inv .0) (t .loop-test .taken) (s .pre .1) (t .before .loop .inv .1) _ (s .pre .0)
-    _ _ (x .value-of .ensures) (m .before .value-of2 .ensures) _ (m .is-proper-multiple .ensures) (not-true _ (c .if1 .taken))
+    let t = m .before .before .before .before .before in
+    failed _ _ (t .before .loop .inv .0) (t .loop-test .taken) (t .before .loop .inv .1) _ _ (m .before .before .before .part-of .ensures)
+    (m .before .part-of2 .ensures) _ (m .is-above .ensures) (not-true _ (c .if1 .taken))
 
 loop-again : tie.Need-loop-again Inv-loop μ-loop
 loop-again c =
     let m = c .before in
-    let x = m .before .before .before in
-    let t = x .before .before in
-    let s = t .before .before .before .before in
+    let t = m .before .before .before .before .before in
     let more =
-    passed _ _ (t .before .loop .inv .0) (t .loop-test .taken) (s .pre .1) (t .before .loop .inv .1) _ (s .pre .0)
-    _ _ (x .value-of .ensures) (m .before .value-of2 .ensures) _ (m .is-proper-multiple .ensures) (not-false _ (c .if1 .left)) in
+    passed _ _ (t .before .loop .inv .0) (t .loop-test .taken) (t .before .loop .inv .1) _ _ (m .before .before .before .part-of .ensures)
+    (m .before .part-of2 .ensures) _ (m .is-above .ensures) (not-false _ (c .if1 .left)) in
     (search needs, more)
 
 pub is-chained-spec : {M : Type 1} → statement M
@@ -105,10 +90,12 @@ is-chained-spec =
     (λ c. search needs)
     (λ c. search needs)
     (λ c. search needs)
-    (λ c κs. search needs)
+    (λ c κs. let s = c .before .before .before .before .before in
+    (s .pre .0, number-known _ _ (s .pre .1) (omega (arith, c .before .loop-test .taken))))
     (λ c. search needs)
     (λ c. search needs)
-    (λ c κs. search needs)
+    (λ c κs. let s = c .before .before .before .before .before .before .before in
+    (s .pre .0, number-known _ _ (s .pre .1) (c .before .before .before .loop-test .taken)))
     (λ c κs. search needs)
     returns
     (λ c. search needs)

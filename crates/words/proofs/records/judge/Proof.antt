@@ -1,4 +1,4 @@
--- The three tests in the order of the refusals, each as the function before it answers; the table's sum is the sum of the parts.
+-- The three tests in the order of the refusals, each as the function before it answers.
 use mathlib.Core.Path.{_≡_, refl, sym, ap, _∙_}
 use mathlib.Core.Bool.{Bool, true, false, cond, _||_}
 use mathlib.Core.List.{List}
@@ -9,12 +9,10 @@ use lib.ListN.{length}
 use borrow.Author.Needs.{needs}
 use borrow.Author.Tests.{not-true, not-false, ltb-true, ltb-false, le-leb, lt-leb}
 use Rattle.chains.specs.Chains.{total}
-use Rattle.parts.specs.Table.{parts}
-use Rattle.parts.specs.Parts.{limit, sumAt, sumOf}
+use Rattle.parts.specs.Parts.{limit, sumOf}
 use Rattle.parts.specs.declared.Sum.the-variants.{Fits, Over}
 use Rattle.lent.specs.LentLaws.{neither}
 use Rattle.words.specs.Records.{recordParts, beyond, chainedTest, judgedOf}
-use Rattle.words.specs.RecordLaws.{record-sum}
 use Rattle.words.specs.declared.Judged.the-variants.{Sum, Refused}
 use Rattle.words.proofs.records.judge.Statement.{statement}
 use Rattle.words.proofs.records.judge.Tie as tie
@@ -33,30 +31,30 @@ module _ (l : List ℕ) (o : Bool) (eo : o ≡ (ltb 64 (length l) || beyond l)) 
     unfolding judgedOf
     unchained e = rw (← eo, inside, ← et, e)
 
-    -- The sum as the table gives it.
-    module _ (chained : t ≡ true) (table : List ℕ) (is-parts : table ≡ parts) where
-      sum : sumAt table l ≡ total (recordParts l)
-      sum = ap (λ (s : List ℕ). sumAt s l) is-parts ∙ record-sum l (known inside)
+    -- The sum of the parts.
+    module _ (chained : t ≡ true) where
+      abbrev whole : ℕ
+      whole = total (recordParts l)
 
-      judged : judgedOf l ≡ cond (leb limit (sumAt table l)) (Refused 10) (Sum (sumAt table l))
+      judged : judgedOf l ≡ cond (leb limit whole) (Refused 10) (Sum whole)
       unfolding judgedOf
-      judged = rw (← eo, inside, ← et, chained, sum)
+      judged = rw (← eo, inside, ← et, chained)
 
-      fits : (n : ℕ) → Fits n ≡ sumOf (sumAt table l) → Sum n ≡ judgedOf l
+      fits : (n : ℕ) → Fits n ≡ sumOf whole → Sum n ≡ judgedOf l
       unfolding sumOf
-      fits n e = go (ltb (sumAt table l) limit) refl e
+      fits n e = go (ltb whole limit) refl e
         where
-          go : (b : Bool) → ltb (sumAt table l) limit ≡ b → Fits n ≡ cond b (Fits (sumAt table l)) Over → Sum n ≡ judgedOf l
-          go true d f = rw (judged, lt-leb limit (sumAt table l) (ltb-true (sumAt table l) limit d)) cc
+          go : (b : Bool) → ltb whole limit ≡ b → Fits n ≡ cond b (Fits whole) Over → Sum n ≡ judgedOf l
+          go true d f = rw (judged, lt-leb limit whole (ltb-true whole limit d)) cc
           go false d f = let z : _≡_ {A = ℕ} 0 1 = cc in absurd (omega arith)
 
-      over : Over ≡ sumOf (sumAt table l) → Refused 10 ≡ judgedOf l
+      over : Over ≡ sumOf whole → Refused 10 ≡ judgedOf l
       unfolding sumOf
-      over e = go (ltb (sumAt table l) limit) refl e
+      over e = go (ltb whole limit) refl e
         where
-          go : (b : Bool) → ltb (sumAt table l) limit ≡ b → Over ≡ cond b (Fits (sumAt table l)) Over → Refused 10 ≡ judgedOf l
+          go : (b : Bool) → ltb whole limit ≡ b → Over ≡ cond b (Fits whole) Over → Refused 10 ≡ judgedOf l
           go true d f = let z : _≡_ {A = ℕ} 0 1 = cc in absurd (omega arith)
-          go false d f = rw (judged, le-leb limit (sumAt table l) (ltb-false (sumAt table l) limit d))
+          go false d f = rw (judged, le-leb limit whole (ltb-false whole limit d))
 
 -- ---- the function
 
@@ -65,21 +63,27 @@ returns-2 c =
     let i = c .before .before in
     unchained _ _ (i .before .is-outside .ensures) (i .if1 .left) _ (c .before .is-chained .ensures) (not-true _ (c .if2 .taken))
 
+sum-of-requires : tie.Need-sum-of-requires
+sum-of-requires c κs =
+    let p = c .before in
+    let i = p .before .before .before in
+    (i .before .before .before .before .pre, p .powers .ensures, known _ _ (i .before .is-outside .ensures) (i .if1 .left))
+
 returns-3 : tie.Need-returns-3
 returns-3 c =
     let s = c .before .before .before in
-    let t = s .before .before in
+    let t = s .before .before .before .before in
     let i = t .before in
-    fits _ _ (i .before .is-outside .ensures) (i .if1 .left) _ (t .is-chained .ensures) (not-false _ (s .before .if2 .left))
-    _ (i .before .before .before .before .pre) _ (sym (c .before .n .given .1) ∙ s .sum-of .ensures)
+    fits _ _ (i .before .is-outside .ensures) (i .if1 .left) _ (t .is-chained .ensures)
+    (not-false _ (s .before .before .before .if2 .left)) _ (sym (c .before .n .given .1) ∙ s .sum-of .ensures)
 
 returns-4 : tie.Need-returns-4
 returns-4 c =
     let s = c .before .before in
-    let t = s .before .before in
+    let t = s .before .before .before .before in
     let i = t .before in
-    over _ _ (i .before .is-outside .ensures) (i .if1 .left) _ (t .is-chained .ensures) (not-false _ (s .before .if2 .left))
-    _ (i .before .before .before .before .pre) (sym (c .enum-told .given .1) ∙ s .sum-of .ensures)
+    over _ _ (i .before .is-outside .ensures) (i .if1 .left) _ (t .is-chained .ensures)
+    (not-false _ (s .before .before .before .if2 .left)) (sym (c .enum-told .given .1) ∙ s .sum-of .ensures)
 
 pub judge-spec : {M : Type 1} → statement M
 judge-spec =
@@ -90,6 +94,8 @@ judge-spec =
     (λ c κs. (c .before .before .before .before .pre, known _ _ (c .before .is-outside .ensures) (c .if1 .left)))
     returns-2
     (λ c κs. search needs)
+    (λ c. search needs)
+    sum-of-requires
     (λ c. search needs)
     (λ c. search needs)
     returns-3

@@ -1,13 +1,13 @@
--- `put_count` leaves the digits of the two numbers one after the other.
+-- `put_single` leaves the digits of 0 and of the number one after the other.
 use native.Mathlib.Omega.{arith}
 use borrow.Author.Needs.{needs}
 use Rattle.frames.specs.PutLaws.{first-digits, more-digits, from-start}
-use Rattle.frames.specs.ReplyDigits.{countDigits}
-use Rattle.frames.proofs.put.put_count.Statement.{statement}
-use Rattle.frames.proofs.put.put_count.Tie as tie
+use Rattle.frames.specs.ReplyDigits.{singleDigits}
+use Rattle.frames.proofs.put.put_single.Statement.{statement}
+use Rattle.frames.proofs.put.put_single.Tie as tie
 
 returns : tie.Need-returns
-unfolding countDigits
+unfolding singleDigits
 returns c =
     let p₂ = c .before .before in
     let p₁ = p₂ .before .before .before .before in
@@ -16,6 +16,6 @@ returns c =
     let s₂ = more-digits 0 _ 16 _ _ _ out _ _ s₁ (omega arith) (p₂ .put-at2 .ensures .0) (p₂ .put-at2 .ensures .1) in
     from-start _ _ _ _ s₂
 
-pub put-count-spec : {M : Type 1} → statement M
-put-count-spec =
+pub put-single-spec : {M : Type 1} → statement M
+put-single-spec =
     tie.close (tie.spec (λ c κs. search needs) (λ c κs. search needs) (λ c. search needs) returns)
