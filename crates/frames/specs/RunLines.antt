@@ -4,7 +4,7 @@
 -- In this order: served and refused (`run-served`, `run-refused`); a line made of values; every chain of n runs to n × x modulo m
 -- (`chain-run`), and so does every chain that another line's reply tells (`leads-run`).
 use mathlib.Core.Path.{_≡_, refl, sym, ap, _∙_}
-use mathlib.Core.Logic.{_↔_, Iff·and, Iff·trans}
+use mathlib.Core.Logic.{_↔_, Iff·trans}
 use mathlib.Core.Bool.{true}
 use mathlib.Core.List.{List, [], map, _++_, append-assoc}
 use Prim.Native.Nat.{ℕ, _+_, _*_, _%_, _^_, _≤_, _<_}
@@ -25,7 +25,7 @@ use Rattle.digits.specs.DigitLaws.{every-append, length-digits, allDigits-digit
 use Rattle.lines.specs.Kinds.{run-line, rowOf}
 use Rattle.lines.specs.Lines.{field, fields, itemsIn, fit, shapeOf}
 use Rattle.lines.specs.LineLaws.{line-fit}
-use Rattle.frames.specs.ReplyDigits.{singleDigits, valuesDigits, partsAt, headBytes}
+use Rattle.frames.specs.ReplyDigits.{singleDigits, partsAt, headBytes}
 use Rattle.frames.specs.ReadBack.{Fitting, field-after, field-first, single-read}
 use Rattle.frames.specs.Replies.{refusedAs, servedWith, ranReply, modulusIn, residueIn, served, replyTo}
 use Rattle.frames.specs.ServedLaws.{few-numbers, number-low}

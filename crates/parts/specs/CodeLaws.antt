@@ -1,11 +1,10 @@
 -- What a code and a power say of a part of the part table. The definitions are in Codes.
-use mathlib.Core.Path.{_≡_, refl, sym, ap, _∙_}
+use mathlib.Core.Path.{_≡_, refl, _∙_}
 use mathlib.Core.List.{List, [], _∷_, map}
 use Prim.Native.Nat.{ℕ, zero, suc, _+_, _*_, _^_, _/_, _%_, _<_}
 use native.Mathlib.Nat.{pow-suc}
 use native.Mathlib.Omega.{arith}
 use lib.ListN.{length, getD, length-map}
-use Rattle.chains.specs.Chains.{Part, value}
 use Rattle.chains.specs.Bounds.{part-bounds}
 use Rattle.parts.specs.Table.{parts}
 use Rattle.parts.specs.Parts.{partAt}

@@ -2,11 +2,11 @@
 -- In order: the run along a word; the theorem of record (`run-is-product`); what follows from it. The definitions are in Run.
 use mathlib.Core.Path.{_≡_, refl, sym, ap, _∙_}
 use mathlib.Core.List.{List, [], _∷_}
-use Prim.Native.Nat.{ℕ, zero, suc, _+_, _*_, _%_, _<_}
+use Prim.Native.Nat.{ℕ, zero, suc, _+_, _*_, _%_}
 use native.Mathlib.Nat.{zero-mul, zero-mod, mod-add-mod, add-mod-mod}
 use native.Mathlib.Omega.{arith}
-use Rattle.chains.specs.Chains.{Part, total, ChainOf}
-use Rattle.chains.specs.Words.{Word, wordOf, chainOf}
+use Rattle.chains.specs.Chains.{Part, ChainOf}
+use Rattle.chains.specs.Words.{Word, wordOf}
 use Rattle.chains.specs.Weight.{weight, total-chainOf}
 use Rattle.chains.specs.RoundTrip.{chain-word-chain}
 use Rattle.running.specs.Run.{doubled, tripled, added, run, runOf}

@@ -9,7 +9,7 @@ use native.Mathlib.Nat.{pow-suc, mul-suc, mul-le-mul-left}
 use native.Mathlib.Omega.{arith}
 use lib.Pow.{pow-add}
 use lib.Dec.{T}
-use lib.ListN.{length, getD, replicate, length-append, length-replicate}
+use lib.ListN.{length, replicate, length-append, length-replicate}
 use Rattle.chains.specs.Chains.{Part}
 use Rattle.chains.specs.Words.{Word, path, marked, wordOf, reads}
 use Rattle.chains.specs.RoundTrip.{word-reads}
@@ -84,9 +84,6 @@ module _ (q p : Part) (w : Word) where
         rising = sym (rw (bits-append rise (path q p) w, length-path q p) (omega (arith, path-rises q p)));
         marking = sym (rw (bits-append mark (path q p) w, length-path q p, path-marks q p) (omega arith));
       }
-
-  pub length-before : length (path q p ++ w) ≡ steps q p + length w
-  length-before = length-append (path q p) w ∙ ap (λ k. k + length w) (length-path q p)
 
   pub length-marked : 0 < steps q p → length (marked (path q p) ++ w) ≡ steps q p + length w
   unfolding path

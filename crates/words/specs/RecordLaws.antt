@@ -1,11 +1,11 @@
 -- What a record gets, in the terms of 003: the sum exactly if its numbers name a chain of a number below 2^64.
 -- In order: the test of a pair and of the whole record says what 003's chain condition says; the numbers of a record are all in the
--- part table; the sum of the table's entries is the sum of the parts; the theorem of record. The definitions are in Records.
-use mathlib.Core.Path.{_≡_, refl, sym, ap, ap₂, _∙_}
+-- part table; the theorem of record. The definitions are in Records.
+use mathlib.Core.Path.{_≡_, refl, ap, _∙_}
 use mathlib.Core.Logic.{_↔_, Iff·and, Iff·trans}
 use mathlib.Core.Bool.{Bool, true, false, cond, _&&_, _||_, not}
 use mathlib.Core.List.{List, [], _∷_}
-use Prim.Native.Nat.{ℕ, zero, suc, _+_, _*_, _/_, _%_, _≤_, _<_}
+use Prim.Native.Nat.{ℕ, zero, suc, _*_, _/_, _%_, _≤_, _<_}
 use native.Mathlib.Nat.{div-add-mod', mul-mod-left, mul-le-mul-right, lt-of-not-le}
 use native.Mathlib.Omega.{arith}
 use lib.Dec.{T, ltb, leb, eqb, ltb→lt, lt→ltb, eqb→eq}
@@ -16,9 +16,7 @@ use borrow.Author.Tests.{ltb-false, leb-false, le-ltb, lt-leb}
 use Rattle.lent.specs.LentLaws.{neither}
 use Rattle.chains.specs.Chains.{Part, value, ProperMultiple, Chained, total}
 use Rattle.chains.specs.Divides.{value-pos}
-use Rattle.parts.specs.Table.{parts}
-use Rattle.parts.specs.Parts.{limit, sumAt}
-use Rattle.parts.specs.Numbers.{part-value}
+use Rattle.parts.specs.Parts.{limit}
 use Rattle.words.specs.Records.{recordParts, beyond, chainedTest, Burned, judgedOf}
 unfoldable pub use Rattle.words.specs.Records.{InTable}
 use Rattle.words.specs.TestLaws.{both-tests}
@@ -76,14 +74,6 @@ in-table l = (there l, back l)
 pub number-known : (l : List ℕ) (i : ℕ) → beyond l ≡ false → i < length l → getD l i 0 < 1344
 unfolding InTable
 number-known l i e h = in-table l .0 e i h
-
--- The sum of the entries that a record names is the sum of its parts.
-pub record-sum : (l : List ℕ) → beyond l ≡ false → sumAt parts l ≡ total (recordParts l)
-unfolding sumAt total recordParts
-record-sum [] e = refl
-record-sum (i ∷ l) e =
-    let (first, rest) = known-cons i l e in
-    ap₂ (λ (x y : ℕ). x + y) (sym (part-value i first)) (record-sum l rest)
 
 -- ---- the record
 

@@ -7,7 +7,7 @@ use borrow.Author.Needs.{needs}
 use Rattle.running.specs.Ran.{ranOf}
 use Rattle.running.specs.declared.Ran.{Ran}
 use Rattle.lines.specs.Kinds.{run-line, rowOf}
-use Rattle.lines.specs.Lines.{field, itemsIn}
+use Rattle.lines.specs.Lines.{itemsIn}
 use Rattle.lines.specs.LineLaws.{field-fits}
 use Rattle.frames.specs.Replies.{modulusIn, residueIn}
 use Rattle.frames.proofs.CallLaws.{read-room, read-all}

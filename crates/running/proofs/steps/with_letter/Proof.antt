@@ -1,6 +1,6 @@
 -- The three sums are one remainder: of twice r, once more r where b rises, and x at a part. For each of the four letters that is the
 -- definition's own line.
-use mathlib.Core.Path.{_≡_, refl, sym, ap, _∙_}
+use mathlib.Core.Path.{_≡_, sym, ap, _∙_}
 use mathlib.Core.List.{_∷_}
 use Prim.Native.Nat.{ℕ, zero, suc, _+_, _*_, _%_, _≤_, _<_}
 use native.Mathlib.Nat.{mod-add-mod, add-mod, mul-le-mul-right}

@@ -1,5 +1,5 @@
 -- The power of 3 at b, shifted by a, is 3^b × 2^a, which is below 2^64.
-use mathlib.Core.Path.{_≡_, refl, sym, ap, _∙_}
+use mathlib.Core.Path.{_≡_, ap, _∙_}
 use mathlib.Core.List.{List}
 use Prim.Native.Nat.{ℕ, _*_, _^_, _%_, _<_}
 use native.Mathlib.Nat.{mul-comm, mod-eq-of-lt}
@@ -9,7 +9,7 @@ use borrow.Author.Needs.{needs}
 use Rattle.chains.specs.Chains.{Part, value}
 use Rattle.parts.specs.Parts.{partAt}
 use Rattle.parts.specs.Numbers.{part-value, part-below}
-use Rattle.parts.specs.Codes.{codes, powers}
+use Rattle.parts.specs.Codes.{powers}
 use Rattle.parts.specs.CodeLaws.{powers-count, part-bounded, power-at}
 use Rattle.words.proofs.entries.value_of.Statement.{statement}
 use Rattle.words.proofs.entries.value_of.Tie as tie

@@ -1,16 +1,13 @@
 -- What is written from the part p on is the end of the word, and the parts below p give the rest of it: the walk from p goes on
 -- from those letters to the whole word. This is the invariant; it is the definition's own line that one turn follows.
-use mathlib.Core.Path.{_≡_, refl, sym, ap, subst, _∙_}
-use mathlib.Core.List.{List, _∷_}
+use mathlib.Core.Path.{_≡_, refl, sym, ap, _∙_}
+use mathlib.Core.List.{List}
 use Prim.Native.Nat.{ℕ, _+_, _-_, _≤_, _<_}
-use native.Mathlib.Numerals.{add-one}
 use native.Mathlib.Omega.{arith}
 use lib.ListN.{length, drop, getD, drop-of-length-le}
-use lib.Seq.{drop-cons}
 use borrow.Author.Needs.{needs}
-use Rattle.chains.specs.Chains.{Part, value, ProperMultiple, Chained}
+use Rattle.chains.specs.Chains.{Part}
 use Rattle.chains.specs.Words.{origin, path, marked, walk}
-use Rattle.chains.specs.Divides.{Above, multiple-above}
 use Rattle.parts.specs.Parts.{partAt}
 use Rattle.words.specs.Records.{recordParts}
 use Rattle.words.specs.RecordLaws.{number-known}

@@ -1,8 +1,8 @@
 -- The two numbers hold the letters from the part p on, and the parts below p give the rest of the word: this is the invariant. It is
 -- the definition's own line that one turn follows.
-use mathlib.Core.Path.{_≡_, refl, sym, ap, ap₂, _∙_}
+use mathlib.Core.Path.{_≡_, refl, ap, _∙_}
 use mathlib.Core.List.{List, [], _∷_, _++_}
-use Prim.Native.Nat.{ℕ, _+_, _-_, _*_, _^_, _≤_, _<_}
+use Prim.Native.Nat.{ℕ, _+_, _-_, _^_, _≤_, _<_}
 use native.Mathlib.Nat.{pow-le-pow-right}
 use native.Mathlib.Omega.{arith}
 use lib.ListN.{length, drop, getD, drop-of-length-le}
@@ -14,8 +14,8 @@ use Rattle.parts.specs.Parts.{partAt}
 use Rattle.words.specs.Records.{recordParts}
 use Rattle.words.specs.RecordLaws.{number-known}
 use Rattle.words.specs.Walks.{point, place, WayBack, steps, risesFrom, marksFrom, Joins}
-use Rattle.words.specs.Packed.{bits, rise, mark, PackedAs}
-use Rattle.words.specs.PackedLaws.{before-path, length-before, before-marked, length-marked, joined-below}
+use Rattle.words.specs.Packed.{bits, PackedAs}
+use Rattle.words.specs.PackedLaws.{before-path, before-marked, length-marked, joined-below}
 use Rattle.words.proofs.Back.{below, above, next}
 use Rattle.words.proofs.packing.pack_back.Statement.{statement}
 use Rattle.words.proofs.packing.pack_back.Tie as tie

@@ -1,5 +1,5 @@
 -- Nothing is lost by the shifts: the sums are below 2^64.
-use mathlib.Core.Path.{_≡_, ap, _∙_}
+use mathlib.Core.Path.{_≡_}
 use Prim.Native.Nat.{ℕ, _+_, _-_, _*_, _^_, _%_, _≤_, _<_}
 use native.Mathlib.Nat.{pow-suc, one-mul, mul-comm, mod-eq-of-lt, pow-le-pow-right}
 use native.Mathlib.Omega.{arith}
