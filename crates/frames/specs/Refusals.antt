@@ -1,8 +1,9 @@
 -- Which numbers a line can be refused with, by its shape and kind by kind (`reply-refusals`). So it is refused with numbers of the
 -- tables only (`reply-refusal`), and each leaves the same behind (`refused-leaves`). It is refused with 3 exactly where its length
--- is proper and a character is no digit (`reply-no-digit`).
+-- is proper and a character is no digit (`reply-no-digit`), and with 4 exactly where its first byte is that of no kind
+-- (`reply-no-kind`).
 use mathlib.Core.Path.{_≡_, refl, ap, subst, _∙_}
-use mathlib.Core.Logic.{_↔_, _⊎_, inl, inr, ⊎-elim}
+use mathlib.Core.Logic.{_↔_, _⊎_, inl, inr, ⊎-elim, Iff·trans}
 use mathlib.Core.Bool.{Bool, true, false, not, cond, and-eq-true-iff}
 use mathlib.Core.List.{List, [], _∷_}
 use mathlib.Core.Option.{Option, none, some}
@@ -14,7 +15,7 @@ use Rattle.lent.specs.Lent.{filled}
 use Rattle.digits.specs.Digits.{every, allDigits, digitsOf}
 use Rattle.lines.specs.Kinds.{Kind, kinds, kindOf}
 use Rattle.lines.specs.Lines.{Shape, unfit, fit, field, bytesIn, badLength, Proper, shapeOfKind, shapeOf}
-use Rattle.lines.specs.LineLaws.{passes, each-kind, no-digit}
+use Rattle.lines.specs.LineLaws.{passes, each-kind, no-digit, no-kind}
 use Rattle.frames.specs.Replies.{refusedAs, digitsIn, served, replyRowOf, refusalsOf, replyByShape, replyTo, replyOf, outLeft}
 use Rattle.frames.specs.ServedLaws.{among, ReplyIn, made}
 
@@ -102,19 +103,29 @@ other-character line e = go (badLength (length line)) refl
     go true h = rw h
     go false h = rw (h, e)
 
--- No fit line is refused with 3. So a line gets 3 exactly if its length is proper and some character is no digit.
-pub reply-no-digit : (line : List ℕ) → (replyTo line ≡ refusedAs 3) ↔ (Proper (length line) × (allDigits line ≡ false))
-unfolding replyTo replyByShape replyRowOf among passes kinds
-reply-no-digit line = (there, λ h. rw (no-digit line .1 h))
-  where
-    not-fit : (k : Kind) → served k line ≡ refusedAs 3 → ⊥
-    not-fit k e =
-        let never = not-true (among 3 (refusalsOf k)) (each-kind (λ (j : Kind). not (among 3 (refusalsOf j))) refl k) in
-        rw never at (subst (ReplyIn (refusalsOf k)) e (made k line .refusal))
+-- A number that no kind refuses a fit line with is told by the shape alone.
+module _ (r : ℕ) (never : passes (λ (k : Kind). not (among r (refusalsOf k))) kinds ≡ true) (line : List ℕ) where
+  not-fit : (k : Kind) → served k line ≡ refusedAs r → ⊥
+  not-fit k e =
+      let none-here = not-true (among r (refusalsOf k)) (each-kind (λ (j : Kind). not (among r (refusalsOf j))) never k) in
+      rw none-here at (subst (ReplyIn (refusalsOf k)) e (made k line .refusal))
 
-    there : replyTo line ≡ refusedAs 3 → Proper (length line) × (allDigits line ≡ false)
-    there e = go (shapeOf line) refl
-      where
-        go : (s : Shape) → shapeOf line ≡ s → Proper (length line) × (allDigits line ≡ false)
-        go (unfit r) g = let same : r ≡ 3 = cc (rw g at e) in no-digit line .0 (g ∙ ap unfit same)
-        go (fit k) g = absurd (not-fit k (rw g at e))
+  by-shape : (replyTo line ≡ refusedAs r) ↔ (shapeOf line ≡ unfit r)
+  unfolding replyTo replyByShape
+  by-shape = (λ e. go (shapeOf line) refl e, λ e. rw e)
+    where
+      go : (s : Shape) → shapeOf line ≡ s → replyTo line ≡ refusedAs r → shapeOf line ≡ unfit r
+      go (unfit q) g e = let same : q ≡ r = cc (rw g at e) in g ∙ ap unfit same
+      go (fit k) g e = absurd (not-fit k (rw g at e))
+
+-- So a line gets 3 exactly if its length is proper and some character is no digit.
+pub reply-no-digit : (line : List ℕ) → (replyTo line ≡ refusedAs 3) ↔ (Proper (length line) × (allDigits line ≡ false))
+unfolding replyRowOf among passes kinds
+reply-no-digit line = Iff·trans (by-shape 3 refl line) (no-digit line)
+
+-- It gets 4 exactly if its length is proper, its characters are digits and its first byte is that of no kind. So 4 does not cover
+-- 07, nor a kind that is added to `kinds`.
+pub reply-no-kind : (line : List ℕ)
+    → (replyTo line ≡ refusedAs 4) ↔ (Proper (length line) × (allDigits line ≡ true) × (kindOf (field line 0 1) ≡ none))
+unfolding replyRowOf among passes kinds
+reply-no-kind line = Iff·trans (by-shape 4 refl line) (no-kind line)

@@ -287,6 +287,33 @@ no-digit line = (there, λ h. unfit-character line (h .0) (h .1))
         go true h = let u = unfit-length line h in let z : _≡_ {A = ℕ} 2 3 = cc in absurd (omega arith)
         go false h = let p = length-proper (length line) h in (p, with-length e p (allDigits line) refl)
 
+-- A line gets 4 exactly if its length is proper, its characters are digits and its first byte is that of no kind.
+pub no-kind : (line : List ℕ)
+    → (shapeOf line ≡ unfit 4) ↔ (Proper (length line) × (allDigits line ≡ true) × (kindOf (field line 0 1) ≡ none))
+unfolding shapeOfKind
+no-kind line = (there, λ h. shape-kind line (h .0) (h .1) ∙ unfit-kind line (kindOf (field line 0 1)) (h .2))
+  where
+    by-length : (k : Kind) (b : Bool) → cond b (fit k) (unfit 2) ≡ unfit 4 → ⊥
+    by-length k true e = let z : _≡_ {A = ℕ} 0 1 = cc in omega arith
+    by-length k false e = let z : _≡_ {A = ℕ} 2 4 = cc in omega arith
+
+    by-kind : (o : Option Kind) → shapeOfKind line o ≡ unfit 4 → o ≡ none
+    by-kind none e = refl
+    by-kind (some k) e = absurd (by-length k (eqb (length line) (2 * bytesIn k line)) e)
+
+    with-length : shapeOf line ≡ unfit 4 → Proper (length line) → (b : Bool) → allDigits line ≡ b
+        → Proper (length line) × (allDigits line ≡ true) × (kindOf (field line 0 1) ≡ none)
+    with-length e p true d = (p, d, by-kind (kindOf (field line 0 1)) (sym (shape-kind line p d) ∙ e))
+    with-length e p false d = let u = unfit-character line p d in let z : _≡_ {A = ℕ} 3 4 = cc in absurd (omega arith)
+
+    there : shapeOf line ≡ unfit 4 → Proper (length line) × (allDigits line ≡ true) × (kindOf (field line 0 1) ≡ none)
+    there e = go (badLength (length line)) refl
+      where
+        go : (b : Bool) → badLength (length line) ≡ b
+            → Proper (length line) × (allDigits line ≡ true) × (kindOf (field line 0 1) ≡ none)
+        go true h = let u = unfit-length line h in let z : _≡_ {A = ℕ} 2 4 = cc in absurd (omega arith)
+        go false h = with-length e (length-proper (length line) h) (allDigits line) refl
+
 -- ---- the answer for a shape
 
 pub refused-shape : (s : Shape) (r : ℕ) → shapeCode s ≡ answer.Refused r → s ≡ unfit r
