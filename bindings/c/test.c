@@ -80,8 +80,8 @@ static void *too_little(void *unused)
     return unused;
 }
 
-/* Each refusal of a run, in the order in which they are tested: what a later call is refused for is wrong in the earlier ones too.
- * The residue is as it was. */
+/* Each refusal of a run, in the order in which the service looks for them. Each call has the faults of the calls after it too, and
+ * gets the first refusal. The residue is as it was. */
 static void *refused_runs(void *unused)
 {
     const uint16_t bad[4] = {1327, 1286, 1327, 1344}; /* 3 * 2^62, 3 * 2^61, 3 * 2^62, and no part's number */

@@ -122,8 +122,8 @@ impl std::fmt::Display for Refusal {
 impl std::error::Error for Refusal {}
 
 /// The chain with these part numbers, largest part first, run on x modulo m. A residue follows the chain's path back from the
-/// largest part. It begins as 0, is doubled or tripled at each step, and x is added at each part. It ends as n × x modulo m, where n
-/// is the sum of the parts. The empty chain gives 0. No scratch is lent, so no [`Terminal`] is needed.
+/// largest part. It begins as 0, is doubled or tripled at each step, and x is added at each part. It ends as n × x modulo m,
+/// where n is the sum of the parts. The empty chain gives 0. No scratch is lent, so no [`Terminal`] is needed.
 ///
 /// The modulus is judged first, then x, then the part numbers: [`Refusal::NoPart`], [`Refusal::NoChain`], [`Refusal::LargeSum`].
 ///

@@ -1,7 +1,7 @@
 -- Digits that were written, read back as the fields of a line: what a person or a program finds in a reply.
 --
--- In this order: a field after others, and the first one; values one after the other; a single number, a chain, and a chain with its
--- price.
+-- In this order: a field after others, and the first one; values one after the other; a single number, a chain, and a chain with
+-- its price.
 use mathlib.Core.Path.{_≡_, refl, ap, _∙_}
 use mathlib.Core.List.{List, [], _∷_, _++_, append-nil, append-assoc}
 use Prim.Native.Nat.{ℕ, zero, suc, _+_, _*_, _^_, _≤_, _<_}

@@ -139,9 +139,9 @@ module _ (n : ℕ) (c : List Part) (chain : ChainOf n c) (fits : n < 2 ^ 64) (m 
       run-reply m x (map partNumber c) (omega arith) (numbers-fit n c chain fits) (omega arith) (omega arith)
       ∙ rw (ran-residue (map partNumber c) m x (n * x % m) .1 (able, (n, burned, refl)))
 
-  -- The residue that stands in the reply.
-  pub residue-read : field (singleDigits (n * x % m)) 1 8 ≡ n * x % m
-  residue-read = single-read (n * x % m) (omega (arith, mod-lt (n * x) {m = m} (omega arith))) .1
+-- The residue that stands in the reply.
+pub residue-read : (n m x : ℕ) → ResidueBy m x → field (singleDigits (n * x % m)) 1 8 ≡ n * x % m
+residue-read n m x able = single-read (n * x % m) (omega (arith, mod-lt (n * x) {m = m} (omega arith))) .1
 
 -- The chain that a reply of the kinds 02 to 06 tells, run on x modulo m, gives the n of that reply times x, modulo m.
 pub leads-run : (ds : List ℕ) → Leads ds → (m x : ℕ) → ResidueBy m x

@@ -1,6 +1,6 @@
 -- The part table and part numbers. What a reader must believe, in this order: Table (the table), Parts (from a number to its part
--- and back, sums), Codes (the exponents of the table's parts). The theory: Tests (from a test of a whole list to each entry), Numbers,
--- CodeLaws.
+-- and back, sums), Codes (the exponents of the table's parts). The theory: Tests (from a test of a whole list to each entry),
+-- Numbers, CodeLaws.
 pub mod Table
 pub mod Parts
 pub mod Tests

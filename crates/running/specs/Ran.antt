@@ -7,7 +7,7 @@ use lib.Dec.{eqb, ltb, leb}
 use Rattle.words.specs.Records.{recordParts, judgedOf}
 use Rattle.words.specs.declared.Judged.{Judged}
 use Rattle.words.specs.declared.Judged.the-variants as judged
-use Rattle.running.specs.Run.{runOf}
+use Rattle.running.specs.Run.{chainRun}
 use Rattle.running.specs.declared.Ran.{Ran}
 use Rattle.running.specs.declared.Ran.the-variants.{Residue, Refused}
 
@@ -17,7 +17,7 @@ badModulus m = eqb m 0 || ltb (2 ^ 63) m
 
 -- The run of a record's chain, or the record's own refusal.
 unfoldable pub runJudged : List ℕ → ℕ → ℕ → Judged → Ran
-runJudged l m x (judged.Sum n) = Residue (runOf m x (recordParts l))
+runJudged l m x (judged.Sum n) = Residue (chainRun m x (recordParts l))
 runJudged l m x (judged.Refused r) = Refused r
 
 -- The answer: 13 for the modulus, then 14 for an x that is not below it, then what the record gets.

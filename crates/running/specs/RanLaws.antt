@@ -1,6 +1,7 @@
 -- What running a record's chain answers, in the terms of document 02 and 003.
--- In order: the tests of m and x; the residue (`ran-residue`): it is n × x modulo m, and told exactly if m and x are what they must
--- be and the record names a chain of n; which refusal comes when (`run-refusals`). The answer is defined in Ran.
+-- In order: the tests of m and x; the answer by the tests; the residue (`ran-residue`): it is n × x modulo m, and told exactly if m
+-- and x are what they must be and the record names a chain of n; which refusal comes when (`run-refusals`). The answer is defined
+-- in Ran.
 use mathlib.Core.Path.{_≡_, refl, sym, subst, _∙_}
 use mathlib.Core.Logic.{_↔_, _⊎_, inl, inr, ⊎-elim, Iff·and, Iff·trans}
 use mathlib.Core.Bool.{Bool, true, false, cond}
@@ -14,10 +15,10 @@ use Rattle.chains.specs.Chains.{Chained, total}
 use Rattle.words.specs.Records.{recordParts, judgedOf, Burned}
 use Rattle.words.specs.RecordLaws.{judged-sum}
 use Rattle.words.specs.Refusals.{Outside, judged-refusals}
-use Rattle.words.specs.TestLaws.{is-first, in-second, one-of-both}
+use Rattle.words.specs.TestLaws.{is-first, in-second, one-of-both, test-true, test-false}
 use Rattle.words.specs.declared.Judged.{Judged}
 use Rattle.words.specs.declared.Judged.the-variants as judged
-use Rattle.running.specs.Run.{runOf}
+use Rattle.running.specs.Run.{chainRun}
 use Rattle.running.specs.Ran.{badModulus, runJudged, ranOf}
 use Rattle.running.specs.RunLaws.{run-is-product}
 use Rattle.running.specs.declared.Ran.{Ran}
@@ -29,19 +30,9 @@ use Rattle.running.specs.declared.Ran.the-variants.{Residue, Refused}
 abbrev pub Modulus : ℕ → Type 0
 Modulus m = (1 ≤ m) × (m ≤ 2 ^ 63)
 
--- It is one, and x is a residue by it.
+-- m is a modulus, and x is below it.
 abbrev pub ResidueBy : ℕ → ℕ → Type 0
 ResidueBy m x = Modulus m × (x < m)
-
--- A test that fails exactly if P holds.
-module _ {P : Type 0} where
-  test-true : (b : Bool) → (P → b ≡ false) → (b ≡ false → P) → T b ↔ (¬ P)
-  test-true true f g = (λ _ p. subst T (f p) tt, λ _. tt)
-  test-true false f g = (absurd, λ h. h (g refl))
-
-  test-false : (b : Bool) → (P → b ≡ false) → (b ≡ false → P) → (¬ T b) ↔ P
-  test-false true f g = (λ h. absurd (h tt), λ p. absurd (subst T (f p) tt))
-  test-false false f g = (λ _. g refl, λ _ t. t)
 
 module _ (m : ℕ) where
   modulus-passes : Modulus m → badModulus m ≡ false
@@ -87,11 +78,11 @@ module _ (l : List ℕ) (m x : ℕ) where
       named : Burned l n
       named = judged-sum l n .0 g
 
-      there : Residue (runOf m x (recordParts l)) ≡ Residue r → (k : ℕ) × Burned l k × (r ≡ k * x % m)
-      there e = let same : runOf m x (recordParts l) ≡ r = cc in
+      there : Residue (chainRun m x (recordParts l)) ≡ Residue r → (k : ℕ) × Burned l k × (r ≡ k * x % m)
+      there e = let same : chainRun m x (recordParts l) ≡ r = cc in
           (n, named, sym same ∙ run-is-product n (recordParts l) (named .chain) m x)
 
-      back : ((k : ℕ) × Burned l k × (r ≡ k * x % m)) → Residue (runOf m x (recordParts l)) ≡ Residue r
+      back : ((k : ℕ) × Burned l k × (r ≡ k * x % m)) → Residue (chainRun m x (recordParts l)) ≡ Residue r
       back (k, b, e) = rw (run-is-product k (recordParts l) (b .chain) m x, e)
   as-run r (judged.Refused s) g = (
     λ e. let z : _≡_ {A = ℕ} 0 1 = cc in absurd (omega arith),

@@ -1,7 +1,7 @@
 -- The run of a chain on residues: document 02, T-02.
 --
--- A chain's path goes from (0, 0) up to the largest part. The run follows it back from the largest part, with a residue modulo m: it
--- doubles the residue where a has risen, triples it where b has risen, and adds x at each part.
+-- A chain's path goes from (0, 0) up to the largest part. The run follows it back from the largest part, with a residue modulo m:
+-- it doubles the residue where a has risen, triples it where b has risen, and adds x at each part.
 -- Definitions only; that the run of every chain of n is n × x modulo m is in RunLaws.
 use mathlib.Core.List.{List, [], _∷_}
 use Prim.Native.Nat.{ℕ, zero, suc, _+_, _*_, _%_}
@@ -29,5 +29,5 @@ run m x (suc (suc (suc zero)) ∷ w) = added m x (tripled m (run m x w))
 run m x (suc (suc (suc (suc l))) ∷ w) = run m x w
 
 -- The run of a chain.
-unfoldable pub runOf : ℕ → ℕ → List Part → ℕ
-runOf m x c = run m x (wordOf c)
+unfoldable pub chainRun : ℕ → ℕ → List Part → ℕ
+chainRun m x c = run m x (wordOf c)

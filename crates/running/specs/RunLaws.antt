@@ -2,14 +2,14 @@
 -- In order: the run along a word; the theorem of record (`run-is-product`); what follows from it. The definitions are in Run.
 use mathlib.Core.Path.{_≡_, refl, sym, ap, _∙_}
 use mathlib.Core.List.{List, [], _∷_}
-use Prim.Native.Nat.{ℕ, zero, suc, _+_, _*_, _%_}
+use Prim.Native.Nat.{ℕ, zero, suc, _+_, _*_, _%_, _≤_}
 use native.Mathlib.Nat.{zero-mul, zero-mod, mod-add-mod, add-mod-mod}
 use native.Mathlib.Omega.{arith}
 use Rattle.chains.specs.Chains.{Part, ChainOf}
 use Rattle.chains.specs.Words.{Word, wordOf}
 use Rattle.chains.specs.Weight.{weight, total-chainOf}
 use Rattle.chains.specs.RoundTrip.{chain-word-chain}
-use Rattle.running.specs.Run.{doubled, tripled, added, run, runOf}
+use Rattle.running.specs.Run.{doubled, tripled, added, run, chainRun}
 
 -- ---- the run along a word
 
@@ -47,19 +47,31 @@ run-weight m x (suc (suc (suc zero)) ∷ w) =
     (ap (λ z. z % m) (omega arith))
 run-weight m x (suc (suc (suc (suc l))) ∷ w) = run-weight m x w
 
+-- A letter by its two bits: 2 × up + part. The run triples where up is 1, else it doubles, and it adds x where part is 1.
+pub run-letter : (m x up part : ℕ) (w : Word) → up ≤ 1 → part ≤ 1
+    → run m x ((2 * up + part) ∷ w) ≡ ((2 + up) * run m x w + part * x) % m
+unfolding run doubled tripled added
+run-letter m x zero zero w h k = ap (λ z. z % m) (omega arith)
+run-letter m x zero (suc zero) w h k = mod-add-mod (2 * run m x w) m x ∙ ap (λ z. z % m) (omega arith)
+run-letter m x (suc zero) zero w h k = ap (λ z. z % m) (omega arith)
+run-letter m x (suc zero) (suc zero) w h k = mod-add-mod (3 * run m x w) m x ∙ ap (λ z. z % m) (omega arith)
+run-letter m x zero (suc (suc k)) w h g = absurd (omega arith)
+run-letter m x (suc zero) (suc (suc k)) w h g = absurd (omega arith)
+run-letter m x (suc (suc u)) k w h g = absurd (omega arith)
+
 -- ---- the run of a chain
 
 -- For every chain of n, every modulus and every x: so for m from 1 to 2^63 and x below m too.
-pub run-is-product : (n : ℕ) (c : List Part) → ChainOf n c → (m x : ℕ) → runOf m x c ≡ n * x % m
-unfolding runOf
+pub run-is-product : (n : ℕ) (c : List Part) → ChainOf n c → (m x : ℕ) → chainRun m x c ≡ n * x % m
+unfolding chainRun
 run-is-product n c h m x =
     run-weight m x (wordOf c) ∙ rw (← total-chainOf (wordOf c), chain-word-chain c (h .chained), h .sums)
 
 -- So any two chains of n run alike.
-pub chains-run-alike : (n : ℕ) (c d : List Part) → ChainOf n c → ChainOf n d → (m x : ℕ) → runOf m x c ≡ runOf m x d
+pub chains-run-alike : (n : ℕ) (c d : List Part) → ChainOf n c → ChainOf n d → (m x : ℕ) → chainRun m x c ≡ chainRun m x d
 chains-run-alike n c d h g m x = run-is-product n c h m x ∙ sym (run-is-product n d g m x)
 
 -- The empty chain gives 0.
-pub run-empty : (m x : ℕ) → runOf m x [] ≡ 0
-unfolding runOf run wordOf
+pub run-empty : (m x : ℕ) → chainRun m x [] ≡ 0
+unfolding chainRun run wordOf
 run-empty m x = refl

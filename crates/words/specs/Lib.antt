@@ -1,6 +1,6 @@
 -- What the services on words answer and leave behind. What a reader must believe, in this order: Answers (good words, comparing,
--- weighing), Records (a burned record), Conversions (from a record to its word, from a word to its parts), Packed (a record's word in
--- two numbers). The theorems on them:
+-- weighing), Records (a burned record), Conversions (from a record to its word, from a word to its parts), Packed (a record's word
+-- in two numbers). The theorems on them:
 --   TestLaws     what an answer says of the tests that chose it
 --   CompareLaws  comparing is the dictionary order, and 7
 --   RecordLaws   a record gets its sum exactly if it names a chain

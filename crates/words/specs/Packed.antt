@@ -16,7 +16,7 @@ unfoldable pub bits : (ℕ → ℕ) → Word → ℕ
 bits f [] = 0
 bits f (l ∷ w) = f l + 2 * bits f w
 
--- Whether b rises after a letter: 1 for the letters 2 and 3. Whether it marks a part: 1 for 1 and 3.
+-- Whether b rises at a letter: 1 for the letters 2 and 3, and so for the last letter too. Whether it marks a part: 1 for 1 and 3.
 abbrev pub rise : ℕ → ℕ
 rise l = l / 2
 

@@ -1,7 +1,8 @@
 -- What an answer that a test chooses between x and y says of the test. In order: the answer is x, or y, where they differ; the
--- answer is z, which one of them is not; the answer is z, whichever of them that is. Several tests in a row are read one after the
--- other: reading a word and reading a record are such answers (Refusals).
-use mathlib.Core.Path.{_≡_, refl}
+-- answer is z, which one of them is not; the answer is z, whichever of them that is; two tests; a test that fails exactly if
+-- something holds. Several tests in a row are read one after the other: reading a word and reading a record are such answers
+-- (Refusals).
+use mathlib.Core.Path.{_≡_, refl, subst}
 use mathlib.Core.Logic.{_↔_, _⊎_, inl, inr}
 use mathlib.Core.Bool.{Bool, true, false, cond, _&&_}
 use lib.Dec.{T}
@@ -31,3 +32,13 @@ module _ {X : Type 0} where
 -- Two tests of which both hold.
 pub both-tests : (a b : Bool) → T (a && b) ↔ (T a × T b)
 both-tests a b = (λ t. (and-l a b t, and-r a b t), λ t. and-i a b (t .0) (t .1))
+
+-- A test that fails exactly if P holds.
+module _ {P : Type 0} where
+  pub test-true : (b : Bool) → (P → b ≡ false) → (b ≡ false → P) → T b ↔ (¬ P)
+  test-true true f g = (λ _ p. subst T (f p) tt, λ _. tt)
+  test-true false f g = (absurd, λ h. h (g refl))
+
+  pub test-false : (b : Bool) → (P → b ≡ false) → (b ≡ false → P) → (¬ T b) ↔ P
+  test-false true f g = (λ h. absurd (h tt), λ p. absurd (subst T (f p) tt))
+  test-false false f g = (λ _. g refl, λ _ t. t)

@@ -1,5 +1,5 @@
--- What the writer of a word's letters keeps on its way, and that of its bits. Only private functions cite these definitions; what
--- the services answer and leave behind is in Conversions and Packed.
+-- What the writer of a word's letters keeps on its way, and the packer of its bits too. Only private functions cite these
+-- definitions; what the services answer and leave behind is in Conversions and Packed.
 use mathlib.Core.Path.{_≡_}
 use mathlib.Core.Bool.{false}
 use mathlib.Core.List.{List, _∷_, _++_}
@@ -38,8 +38,8 @@ pub record WayBack (table l : List ℕ) (i : ℕ) (p : Part) (n : ℕ) : Type 0 
   pub chained : Chained (p ∷ recordParts (drop i l))
   pub room : place p ≤ n
 
--- A record whose word can be written into n places: the table is that of the codes, the record names a chain of a number below 2^64,
--- and there are 64 places or more.
+-- A record whose word can be written into n places: the table is that of the codes, the record names a chain of a number below
+-- 2^64, and there are 64 places or more.
 pub record Writable (table l : List ℕ) (n : ℕ) : Type 0 where
   pub is-codes : table ≡ codes
   pub burned : Burned l (total (recordParts l))
@@ -51,17 +51,17 @@ pub record Writable (table l : List ℕ) (n : ℕ) : Type 0 where
 abbrev pub steps : Part → Part → ℕ
 steps q p = (p .b - q .b) + (p .a - q .a)
 
--- The bits of those letters: b rises first. `sign` is 1 where q is a part. Before them those of later letters.
+-- The bits of those letters, and above them those of the later letters. b rises first. `part` is 1 where q is a part.
 abbrev pub risesFrom : Part → Part → ℕ → ℕ
 risesFrom q p later = 2 ^ (p .b - q .b) - 1 + 2 ^ steps q p * later
 
 abbrev pub marksFrom : Part → Part → ℕ → ℕ → ℕ
-marksFrom q p sign later = sign + 2 ^ steps q p * later
+marksFrom q p part later = part + 2 ^ steps q p * later
 
--- They fit into 64.
-pub record Joins (q p : Part) (sign rises marks : ℕ) : Type 0 where
+-- Both numbers fit in 64 bits.
+pub record Joins (q p : Part) (part rises marks : ℕ) : Type 0 where
   pub across : q .a ≤ p .a
   pub upward : q .b ≤ p .b
   pub few : steps q p < 64
   pub rises-fit : risesFrom q p rises < 2 ^ 64
-  pub marks-fit : marksFrom q p sign marks < 2 ^ 64
+  pub marks-fit : marksFrom q p part marks < 2 ^ 64

@@ -1,4 +1,4 @@
-// Path words: which are good, how two stand in the dictionary, what number a word stands for; and records: what they get, and their
+// Path words: which are good, how two stand in the dictionary, what number a word stands for. Records: what they get, and their
 // words.
 mod entries;
 mod letters;
@@ -44,8 +44,8 @@ pub enum Written {
     Refused(u8),
 }
 
-// A record's word in two numbers, a bit a letter, the lowest for the first: whether b rises after the letter (2 and 3), and whether
-// it marks a part (1 and 3); and how many letters there are. Or document 01's number of a refusal.
+// A record's word in two numbers, a bit a letter, the lowest for the first: whether the letter is 2 or 3, where b rises, and
+// whether it is 1 or 3, a part; and how many letters there are. Or document 01's number of a refusal.
 pub enum Packed {
     Word {
         rises: u64,

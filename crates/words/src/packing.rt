@@ -1,5 +1,5 @@
-// The letters of a record's word in two numbers, a bit a letter: the first letter has the lowest bit. The bits are put together from
-// the largest part back, as the letters are written (letters.rt), but no place is written.
+// The letters of a record's word in two numbers, a bit a letter: the first letter has the lowest bit. The bits are put together
+// from the largest part back, as the letters are written (letters.rt), but no place is written.
 use super::Packed;
 use super::entries;
 use parts::Exponents;
@@ -17,17 +17,17 @@ struct Bits {
     marks: u64,
 }
 
-// The letters from the point q up to p before those of `later`. `sign` is 1 where q is a part.
-fn with_path(later: Bits, q: Exponents, p: Exponents, sign: u64) -> Bits
-    requires { ⌜ Joins (point q) (point p) sign (later .rises) (later .marks) ⌝ }
+// The letters from the point q up to p before those of `later`. `part` is 1 where q is a part.
+fn with_path(later: Bits, q: Exponents, p: Exponents, part: u64) -> Bits
+    requires { ⌜ Joins (point q) (point p) part (later .rises) (later .marks) ⌝ }
     ensures { λ r. ⌜ (r .rises ≡ risesFrom (point q) (point p) (later .rises))
-        × (r .marks ≡ marksFrom (point q) (point p) sign (later .marks)) ⌝ }
+        × (r .marks ≡ marksFrom (point q) (point p) part (later .marks)) ⌝ }
 {
     let up = p.b - q.b;
     let steps = up + (p.a - q.a);
     Bits {
         rises: (1 << up) - 1 + (later.rises << steps),
-        marks: sign + (later.marks << steps),
+        marks: part + (later.marks << steps),
     }
 }
 

@@ -1,5 +1,5 @@
 // A burned record, part numbers with the largest part first: document 01's refusals 8, 9 and 10, each looked for in the whole
-// record before the next. The table that is lent is that of the part table's codes, and `threes` are the powers of 3.
+// record before the next. The table that is lent holds the codes of the parts, and `threes` the powers of 3.
 use super::Judged;
 use super::entries;
 use parts::Exponents;

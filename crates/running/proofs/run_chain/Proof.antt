@@ -9,7 +9,7 @@ use Rattle.words.specs.RecordLaws.{judged-sum}
 use Rattle.words.specs.Packed.{unpacked, packedOf}
 use Rattle.words.specs.PackedLaws.{packed-word, packed-refused}
 use Rattle.words.specs.declared.Packed.the-variants as packed
-use Rattle.running.specs.Run.{run, runOf}
+use Rattle.running.specs.Run.{run, chainRun}
 use Rattle.running.specs.Ran.{badModulus, runJudged, ranOf}
 use Rattle.running.specs.declared.Ran.the-variants.{Residue, Refused}
 use Rattle.running.proofs.run_chain.Statement.{statement}
@@ -41,7 +41,7 @@ module _ (l : List ℕ) (m x : ℕ) where
 
       residue : (rises marks letters r : ℕ) → packedOf l ≡ packed.Word rises marks letters
           → r ≡ run m x (unpacked letters rises marks) → Residue r ≡ ranOf l m x
-      unfolding runJudged runOf
+      unfolding runJudged chainRun
       residue rises marks letters r e f =
           let w = packed-word l rises marks letters e in
           rw (f, w .word) (sym (asked ∙ rw (judged-sum l (w .number) .1 (w .burned))))

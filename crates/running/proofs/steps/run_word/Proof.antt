@@ -9,6 +9,7 @@ use borrow.Author.Needs.{needs}
 use Rattle.chains.specs.Words.{Word}
 use Rattle.words.specs.Packed.{unpacked}
 use Rattle.running.specs.Run.{run}
+use Rattle.running.specs.RunLaws.{run-letter}
 use Rattle.running.proofs.steps.run_word.Statement.{statement}
 use Rattle.running.proofs.steps.run_word.Tie as tie
 
@@ -28,12 +29,13 @@ module _ (m x rises marks k : ℕ) where
 
   -- One letter more, the one before what has been read: t is what it gives.
   more : (r i t : ℕ) → 0 < i → i ≤ k → r ≡ run m x (from rises marks k i)
-      → ((w : Word) → run m x w ≡ r → t ≡ run m x ((2 * (rises / 2 ^ (i - 1) % 2) + marks / 2 ^ (i - 1) % 2) ∷ w))
+      → t ≡ ((2 + rises / 2 ^ (i - 1) % 2) * r + marks / 2 ^ (i - 1) % 2 * x) % m
       → t ≡ run m x (from rises marks k (i - 1))
   unfolding unpacked
   more r i t h g e f =
       let n : k - (i - 1) ≡ suc (k - i) = omega arith in
-      rw (n, half rises i h, half marks i h) (f (from rises marks k i) (sym e))
+      let step = run-letter m x (rises / 2 ^ (i - 1) % 2) (marks / 2 ^ (i - 1) % 2) (from rises marks k i) (omega arith) (omega arith) in
+      rw (n, half rises i h, half marks i h) (rw e at f ∙ sym step)
 
   all-read : (r i : ℕ) → i ≤ 0 → r ≡ run m x (from rises marks k i) → r ≡ run m x (unpacked k rises marks)
   all-read r i h e =

@@ -1,5 +1,5 @@
--- The two numbers hold the letters from the part p on, and the parts below p give the rest of the word: this is the invariant. It is
--- the definition's own line that one turn follows.
+-- The two numbers hold the letters from the part p on, and the parts below p give the rest of the word: this is the invariant. One
+-- turn follows the definition's own line.
 use mathlib.Core.Path.{_≡_, refl, ap, _∙_}
 use mathlib.Core.List.{List, [], _∷_, _++_}
 use Prim.Native.Nat.{ℕ, _+_, _-_, _^_, _≤_, _<_}
@@ -45,17 +45,17 @@ start l p =
     }
 
 -- The bits from q up to p before those of w: how large they are, and that they fit.
-module _ (q p : Part) (sign rises marks k : ℕ) (across : q .a ≤ p .a) (upward : q .b ≤ p .b) (small : sign < 2 ^ steps q p)
+module _ (q p : Part) (part rises marks k : ℕ) (across : q .a ≤ p .a) (upward : q .b ≤ p .b) (small : part < 2 ^ steps q p)
     (low-rises : rises < 2 ^ k) (low-marks : marks < 2 ^ k) where
   rises-low : risesFrom q p rises < 2 ^ (steps q p + k)
   rises-low =
       let ones : 2 ^ (p .b - q .b) ≤ 2 ^ steps q p = pow-le-pow-right {n = 2} (omega arith) (omega arith) in
       joined-below (2 ^ (p .b - q .b) - 1) rises (steps q p) k (omega (arith, pow-pos (p .b - q .b))) low-rises
 
-  marks-low : marksFrom q p sign marks < 2 ^ (steps q p + k)
-  marks-low = joined-below sign marks (steps q p) k small low-marks
+  marks-low : marksFrom q p part marks < 2 ^ (steps q p + k)
+  marks-low = joined-below part marks (steps q p) k small low-marks
 
-  joins : 0 < k → steps q p + k ≤ 64 → Joins q p sign rises marks
+  joins : 0 < k → steps q p + k ≤ 64 → Joins q p part rises marks
   joins some room =
       let most : 2 ^ (steps q p + k) ≤ 2 ^ 64 = pow-le-pow-right {n = 2} (omega arith) room in
       record {
@@ -72,13 +72,13 @@ module _ (t l : List ℕ) (p₀ : Part) (room : place p₀ ≤ 63) (i : ℕ) (p 
   apart : 0 < steps q p
   apart = let a = above t l i p 63 way h q e in omega (arith, a .across, a .upward, a .apart)
 
-  sign-low : 1 < 2 ^ steps q p
-  sign-low = let two : 2 ^ 1 ≤ 2 ^ steps q p = pow-le-pow-right {n = 2} (omega arith) apart in omega (arith, two)
+  part-low : 1 < 2 ^ steps q p
+  part-low = let two : 2 ^ 1 ≤ 2 ^ steps q p = pow-le-pow-right {n = 2} (omega arith) apart in omega (arith, two)
 
   able : Joins q p 1 rises marks
   able =
       let a = above t l i p 63 way h q e in
-      joins q p 1 rises marks (length (so .w)) (a .across) (a .upward) sign-low (so .low-rises) (so .low-marks) (so .some)
+      joins q p 1 rises marks (length (so .w)) (a .across) (a .upward) part-low (so .low-rises) (so .low-marks) (so .some)
       (omega (arith, so .long, a .across, a .upward))
 
   more : (r m : ℕ) → r ≡ risesFrom q p rises → m ≡ marksFrom q p 1 marks → Packing l p₀ (i + 1) q r m
@@ -95,8 +95,8 @@ module _ (t l : List ℕ) (p₀ : Part) (room : place p₀ ≤ 63) (i : ℕ) (p 
           rising = er ∙ ap (risesFrom q p) (so .held .rising) ∙ held .rising;
           marking = em ∙ ap (marksFrom q p 1) (so .held .marking) ∙ held .marking;
         };
-        low-rises = rw (er, long) (rises-low q p 1 rises marks k (a .across) (a .upward) sign-low (so .low-rises) (so .low-marks));
-        low-marks = rw (em, long) (marks-low q p 1 rises marks k (a .across) (a .upward) sign-low (so .low-rises) (so .low-marks));
+        low-rises = rw (er, long) (rises-low q p 1 rises marks k (a .across) (a .upward) part-low (so .low-rises) (so .low-marks));
+        low-marks = rw (em, long) (marks-low q p 1 rises marks k (a .across) (a .upward) part-low (so .low-rises) (so .low-marks));
         some = omega (arith, long, so .some);
         long = omega (arith, long, so .long, a .across, a .upward);
       }

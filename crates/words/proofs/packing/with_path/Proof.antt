@@ -17,7 +17,7 @@ power k h =
 shifted : (x k : ℕ) → 2 ^ k * x < 2 ^ 64 → x * 2 ^ k % 2 ^ 64 ≡ 2 ^ k * x
 shifted x k h = rw (mul-comm x (2 ^ k)) (mod-eq-of-lt h)
 
-module _ (q p : Part) (sign rises marks : ℕ) (j : Joins q p sign rises marks) where
+module _ (q p : Part) (part rises marks : ℕ) (j : Joins q p part rises marks) where
   ones : 1 * 2 ^ (p .b - q .b) % 2 ^ 64 ≡ 2 ^ (p .b - q .b)
   ones = power (p .b - q .b) (omega (arith, j .few))
 
@@ -27,7 +27,7 @@ module _ (q p : Part) (sign rises marks : ℕ) (j : Joins q p sign rises marks) 
   rises-sum : 1 * 2 ^ (p .b - q .b) % 2 ^ 64 - 1 + rises * 2 ^ steps q p % 2 ^ 64 ≡ risesFrom q p rises
   rises-sum = rw (ones, shifted rises (steps q p) (omega (arith, j .rises-fit)))
 
-  marks-sum : sign + marks * 2 ^ steps q p % 2 ^ 64 ≡ marksFrom q p sign marks
+  marks-sum : part + marks * 2 ^ steps q p % 2 ^ 64 ≡ marksFrom q p part marks
   marks-sum = rw (shifted marks (steps q p) (omega (arith, j .marks-fit)))
 
 pub with-path-spec : {M : Type 1} → statement M
