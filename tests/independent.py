@@ -44,6 +44,9 @@ import tempfile
 import grown
 
 LIMIT = 2**64
+SCRATCH = 512  # numbers that a scratch must have, and that are zero on return
+SIZES = (SCRATCH, 513, 5248)  # scratches that the test programs lend: each is served
+SHORT = 511  # one that is refused
 LONGEST = 120  # seconds that the engine may take for an answer
 POINTS = [(a, b) for a in range(64) for b in range(41) if 2**a * 3**b < LIMIT]
 VALUE = {p: 2 ** p[0] * 3 ** p[1] for p in POINTS}
@@ -784,8 +787,21 @@ def shifts(times):
         yield x
 
 
+def refused_lines():
+    """Words and records, most of them refused: the same whatever the size of the scratch."""
+    for letters in ([], [0], [2], [4], [0, 2, 3], [1, 2, 3], [1, 3, 2]):
+        yield ends_line(letters)
+    for letter, times in ((0, 63), (0, 64), (2, 40), (2, 41), (1, 63), (1, 64)):
+        yield ends_line([letter] * times + [3])
+    for record in ([], [1343], [1344], [0, 1344], [0, 0], [0, 1], [NUMBER[62, 1], NUMBER[61, 1]], [NUMBER[63, 0], NUMBER[62, 0]]):
+        yield record_line(record)
+    yield record_line(TWOS)
+    yield record_line(TWOS + [0])
+
+
 @what
 def test_ranking():
+    """No line tells the size of the scratch: it changes no answer."""
     for n in range(301):
         for position in range(count(n) + 1):
             yield position_line(n, position)
@@ -796,18 +812,12 @@ def test_ranking():
         last = count(n) - 1
         for position in (0, last, last // 2, last + 1):
             yield position_line(n, position)
-    for letters in ([], [0], [2], [4], [0, 2, 3], [1, 2, 3], [1, 3, 2]):
-        yield ends_line(letters)
-    for letter, times in ((0, 63), (0, 64), (2, 40), (2, 41), (1, 63), (1, 64)):
-        yield ends_line([letter] * times + [3])
-    for record in ([], [1343], [1344], [0, 1344], [0, 0], [0, 1], [NUMBER[62, 1], NUMBER[61, 1]], [NUMBER[63, 0], NUMBER[62, 0]]):
-        yield record_line(record)
-    twos = [NUMBER[a, 0] for a in range(63, -1, -1)]
-    yield record_line(twos)
-    yield record_line(twos + [0])
-    # too small a scratch: three services, then the record; too few places: three services
+    for _ in SIZES:
+        yield from refused_lines()
+    # too small a scratch: three services, then the record; too few places with two sizes of the scratch: three services
     yield "1 1 1 "
     yield "1"
+    yield "1 1 1 "
     yield "1 1 1 "
 
 
@@ -860,10 +870,13 @@ def around_line(n, i, free, prices):
 
 def left_line(n, limits, size, places):
     """The answer, then how far zeros and then what was there before reach: in the scratch, and in the places behind the parts."""
-    if size < 5248 or places < 64:
+    if size < SCRATCH or places < 64:
         return f"1 0 {size} 0 {places}"
     found = best_twice(n, limits, PRICES[0])
-    return f"5 5248 {size} 0 {places}" if found is None else f"{told(found)} 5248 {size} 64 {places}"
+    return f"5 {SCRATCH} {size} 0 {places}" if found is None else f"{told(found)} {SCRATCH} {size} 64 {places}"
+
+
+EXAMPLES = [(19, (2, 63, 40)), (5, (1, 63, 40)), (29, FREE), (0, (0, 0, 0))]
 
 
 @what
@@ -882,13 +895,12 @@ def test_best():
         yield told(free)
         yield around_line(n, i, free, PRICES[i % 6])
         grown.forget()
-    for n in EDGES:
-        for limits in EDGE_LIMITS:
-            yield left_line(n, limits, 5250, 66)
-    for n, limits in (19, (2, 63, 40)), (5, (1, 63, 40)), (29, FREE), (0, (0, 0, 0)):
-        yield left_line(n, limits, 5250, 66)
-    yield left_line(19, FREE, 5247, 66)
-    yield left_line(19, FREE, 5250, 63)
+    for size in SIZES:
+        for n, limits in [*itertools.product(EDGES, EDGE_LIMITS), *EXAMPLES]:
+            yield left_line(n, limits, size, 66)
+    for size, places in (SHORT, 66), (SCRATCH, 63), (5248, 63):
+        for n, limits in EXAMPLES:
+            yield left_line(n, limits, size, places)
 
 
 SPECIAL = [65535, 65536, 10**6, 2**32 - 1, 2**32, 10**18, 3**19 - 1, 3**19, 3**19 + 1, 2**30 * 3**19, 2**62 - 1, 2**62]
@@ -901,12 +913,12 @@ def test_table():
     """A count a line, then where the zeros that the scratch begins with end, and where the ones after them end."""
     quotients = [(LIMIT - 1) // d for d in range(1, 501)]
     for n in range(2001):
-        yield f"{count(n)} 5248 5248"
-    for size in (5248, 6000):
+        yield f"{count(n)} {SCRATCH} {SCRATCH}"
+    for size in SIZES:
         for n in quotients + SPECIAL:
-            yield f"{count(n)} 5248 {size}"
+            yield f"{count(n)} {SCRATCH} {size}"
     for n in SPECIAL:
-        yield "1 0 5247"
+        yield f"1 0 {SHORT}"
 
 
 def number_or_dash(a, b):

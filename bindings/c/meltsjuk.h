@@ -27,10 +27,10 @@
 #include <stddef.h>
 #include <stdint.h>
 
-#define MELTSJUK_SCRATCH 5248 /* a scratch has at least so many numbers */
-#define MELTSJUK_PLACES 64    /* at least so many places are lent for part numbers; a chain has no more parts */
-#define MELTSJUK_REPLY 514    /* at least so many bytes are lent for a reply */
-#define MELTSJUK_STACK 32768  /* a thread with so many bytes of stack can make any of the calls */
+#define MELTSJUK_SCRATCH 512 /* a scratch has at least so many numbers; they take 4 KB */
+#define MELTSJUK_PLACES 64   /* at least so many places are lent for part numbers; a chain has no more parts */
+#define MELTSJUK_REPLY 514   /* at least so many bytes are lent for a reply */
+#define MELTSJUK_STACK 32768 /* a thread with so many bytes of stack can make any of the calls */
 
 /* The answers of meltsjuk_count, meltsjuk_best and meltsjuk_run; at each function stands which of them it gives. meltsjuk_reply
  * answers MELTSJUK_LITTLE_LENT too, and otherwise a length. */

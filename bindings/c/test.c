@@ -4,8 +4,12 @@
  * With the argument `calls`: the same for lines of kinds 01, 02 and 07 of the right length, by the calls for the count, the best
  * chain and the run of a chain, whose answers are written here as replies.
  *
- * Every call is made on a thread of its own with a stack of MELTSJUK_STACK bytes. The page below the stack must not be touched: a
- * call that needs more stack ends the program by a signal. */
+ * Every call is made on a thread with a stack of MELTSJUK_STACK bytes. The page below the stack must not be touched: a call that
+ * needs more stack ends the program by a signal.
+ *
+ * Every scratch stands before a page that must not be touched either: a call that reads or writes past its end is stopped alike. A
+ * scratch has MELTSJUK_SCRATCH numbers, one more, or 5,248. All bits are set before a call. After it the first MELTSJUK_SCRATCH
+ * numbers must be zero and the others as they were. A scratch of one number less is refused and left as it was. */
 #define _DEFAULT_SOURCE
 #define _POSIX_C_SOURCE 200809L
 #include "meltsjuk.h"
@@ -19,7 +23,13 @@
 #include <sys/types.h>
 #include <unistd.h>
 
-static uint64_t scratch[MELTSJUK_SCRATCH];
+/* A scratch to lend. */
+struct scratch {
+    uint64_t *numbers;
+    size_t length;
+};
+
+static struct scratch shorter, exact, longer, large;
 static uint16_t places[MELTSJUK_PLACES];
 static uint16_t numbers[255]; /* a line tells in one byte how many part numbers it has */
 static uint8_t out[MELTSJUK_REPLY];
@@ -43,6 +53,63 @@ static void make_small(void)
          "a thread cannot have a stack of MELTSJUK_STACK bytes");
 }
 
+/* A scratch between two pages that must not be touched. It ends where the second begins. Where it fills whole pages, as 512 numbers
+ * do, it begins where the first ends. */
+static struct scratch fenced(size_t length)
+{
+    size_t page = (size_t)sysconf(_SC_PAGESIZE);
+    size_t room = (length * sizeof(uint64_t) + page - 1) / page * page;
+    char *memory = mmap(NULL, page + room + page, PROT_READ | PROT_WRITE, MAP_PRIVATE | MAP_ANONYMOUS, -1, 0);
+    struct scratch s;
+
+    must(memory != MAP_FAILED && mprotect(memory, page, PROT_NONE) == 0 && mprotect(memory + page + room, page, PROT_NONE) == 0,
+         "no memory for a scratch");
+    s.numbers = (uint64_t *)(void *)(memory + page + room) - length;
+    s.length = length;
+    return s;
+}
+
+static void make_scratches(void)
+{
+    shorter = fenced(MELTSJUK_SCRATCH - 1);
+    exact = fenced(MELTSJUK_SCRATCH);
+    longer = fenced(MELTSJUK_SCRATCH + 1);
+    large = fenced(5248);
+}
+
+/* The scratch for a line: the least that is served for most lines. */
+static struct scratch scratch_for(uint64_t line)
+{
+    return line % 8 == 1 ? longer : line % 8 == 3 ? large : exact;
+}
+
+/* Sets all bits of the scratch, the places and the reply's bytes. */
+static void set_bits(struct scratch s)
+{
+    memset(s.numbers, 0xFF, s.length * sizeof(uint64_t));
+    memset(places, 0xFF, sizeof places);
+    memset(out, 0xFF, sizeof out);
+}
+
+/* Whether each of so many bytes has the value. */
+static int is_all(const void *memory, size_t bytes, unsigned char value)
+{
+    const unsigned char *byte = memory;
+
+    while (bytes > 0 && *byte == value) {
+        byte++;
+        bytes--;
+    }
+    return bytes == 0;
+}
+
+/* Whether the first `zeros` numbers of the scratch are zero, and the others have all bits set. */
+static int is_left(struct scratch s, size_t zeros)
+{
+    return is_all(s.numbers, zeros * sizeof(uint64_t), 0)
+           && is_all(s.numbers + zeros, (s.length - zeros) * sizeof(uint64_t), 0xFF);
+}
+
 static void on_small_stack(void *(*calls)(void *), void *argument)
 {
     pthread_t thread;
@@ -50,34 +117,71 @@ static void on_small_stack(void *(*calls)(void *), void *argument)
     must(pthread_create(&thread, &small, calls, argument) == 0 && pthread_join(thread, NULL) == 0, "no thread");
 }
 
-/* One number or byte less than is asked for: each call refuses, and what it would write to is as it was. */
+/* One number, place or byte less than is asked for: each call refuses, and what it would write to is as it was. */
 static void *too_little(void *unused)
 {
     const uint8_t line[18] = "010000000000000013";
     uint64_t count = 7, position = 7, k = 7, price = 7;
 
-    scratch[0] = 7;
-    places[0] = 7;
-    out[0] = 7;
-    must(meltsjuk_reply(line, 18, scratch, MELTSJUK_SCRATCH - 1, out, MELTSJUK_REPLY) == MELTSJUK_LITTLE_LENT,
+    set_bits(shorter);
+    set_bits(exact);
+    must(meltsjuk_reply(line, 18, shorter.numbers, shorter.length, out, MELTSJUK_REPLY) == MELTSJUK_LITTLE_LENT,
          "a reply with a short scratch");
-    must(meltsjuk_reply(line, 18, scratch, MELTSJUK_SCRATCH, out, MELTSJUK_REPLY - 1) == MELTSJUK_LITTLE_LENT,
+    must(meltsjuk_reply(line, 18, exact.numbers, exact.length, out, MELTSJUK_REPLY - 1) == MELTSJUK_LITTLE_LENT,
          "a reply with few bytes");
-    must(meltsjuk_count(19, scratch, MELTSJUK_SCRATCH - 1, &count) == MELTSJUK_LITTLE_LENT, "a count with a short scratch");
-    must(meltsjuk_best(19, 64, 63, 40, 4, 7, 9, scratch, MELTSJUK_SCRATCH - 1, places, MELTSJUK_PLACES, &position, &k, &price)
+    must(meltsjuk_count(19, shorter.numbers, shorter.length, &count) == MELTSJUK_LITTLE_LENT, "a count with a short scratch");
+    must(meltsjuk_best(19, 64, 63, 40, 4, 7, 9, shorter.numbers, shorter.length, places, MELTSJUK_PLACES, &position, &k, &price)
              == MELTSJUK_LITTLE_LENT,
          "a best chain with a short scratch");
-    must(meltsjuk_best(19, 64, 63, 40, 4, 7, 9, scratch, MELTSJUK_SCRATCH, places, MELTSJUK_PLACES - 1, &position, &k, &price)
+    must(meltsjuk_best(19, 64, 63, 40, 4, 7, 9, exact.numbers, exact.length, places, MELTSJUK_PLACES - 1, &position, &k, &price)
              == MELTSJUK_LITTLE_LENT,
          "a best chain with few places");
-    must(scratch[0] == 7 && places[0] == 7 && out[0] == 7, "memory written although it was refused");
+    must(is_left(shorter, 0) && is_left(exact, 0), "a scratch written although it was refused");
+    must(is_all(places, sizeof places, 0xFF) && is_all(out, sizeof out, 0xFF), "memory written although it was refused");
     must(count == 7 && position == 7 && k == 7 && price == 7, "numbers written although they were refused");
-    must(meltsjuk_best(5, 1, 63, 40, 4, 7, 9, scratch, MELTSJUK_SCRATCH, places, MELTSJUK_PLACES, &position, &k, &price)
+    return unused;
+}
+
+/* Each call that is lent a scratch, served with this one. */
+static void *served(void *scratch)
+{
+    const struct scratch s = *(const struct scratch *)scratch;
+    const uint8_t line[18] = "010000000000000013";
+    uint64_t count = 7, position = 7, k = 7, price = 7;
+
+    set_bits(s);
+    must(meltsjuk_reply(line, 18, s.numbers, s.length, out, MELTSJUK_REPLY) == 18, "a reply with the count of 19");
+    must(strcmp((const char *)out, "000000000000000004") == 0 && is_all(out + 18, MELTSJUK_REPLY - 18, 0), "what a reply leaves");
+    must(is_left(s, MELTSJUK_SCRATCH), "what a reply leaves in the scratch");
+    set_bits(s);
+    must(meltsjuk_count(19, s.numbers, s.length, &count) == MELTSJUK_SERVED && count == 4, "the count of 19");
+    must(is_left(s, MELTSJUK_SCRATCH), "what a count leaves in the scratch");
+    set_bits(s);
+    must(meltsjuk_best(19, 64, 63, 40, 4, 7, 9, s.numbers, s.length, places, MELTSJUK_PLACES, &position, &k, &price)
+             == MELTSJUK_SERVED,
+         "the best chain of 19");
+    must(position == 3 && k == 2 && price == 27 && places[0] == 9 && is_all(places + 1, sizeof places - sizeof places[0], 0),
+         "what a best chain leaves"); /* 18 + 1, which are the parts 9 and 0 */
+    must(is_left(s, MELTSJUK_SCRATCH), "what a best chain leaves in the scratch");
+    return NULL;
+}
+
+/* A line of no kind, and limits that no chain is within, with this scratch: it is zeroed as where they are served. */
+static void *refused(void *scratch)
+{
+    const struct scratch s = *(const struct scratch *)scratch;
+    uint64_t position = 7, k = 7, price = 7;
+
+    set_bits(s);
+    must(meltsjuk_reply((const uint8_t *)"7F", 2, s.numbers, s.length, out, MELTSJUK_REPLY) == 2, "a reply to a line of no kind");
+    must(strcmp((const char *)out, "04") == 0 && is_left(s, MELTSJUK_SCRATCH), "what is left where a line is refused");
+    set_bits(s);
+    must(meltsjuk_best(5, 1, 63, 40, 4, 7, 9, s.numbers, s.length, places, MELTSJUK_PLACES, &position, &k, &price)
              == MELTSJUK_NONE_FITS,
          "a chain of one part for 5");
-    must(scratch[0] == 0 && places[0] == 7, "what is left where none fits");
+    must(is_left(s, MELTSJUK_SCRATCH) && is_all(places, sizeof places, 0xFF), "what is left where none fits");
     must(position == 7 && k == 7 && price == 7, "numbers written although none fits");
-    return unused;
+    return NULL;
 }
 
 /* Each refusal of a run, in the order in which the service looks for them. Each call has the faults of the calls after it too, and
@@ -103,6 +207,7 @@ static void *refused_runs(void *unused)
 struct request {
     const char *line;
     size_t length;
+    struct scratch scratch;
     uint64_t digits, count, position, k, price, residue;
     uint8_t status;
 };
@@ -120,7 +225,7 @@ static void *call_reply(void *request)
 {
     struct request *r = request;
 
-    r->digits = meltsjuk_reply((const uint8_t *)r->line, r->length, scratch, MELTSJUK_SCRATCH, out, MELTSJUK_REPLY);
+    r->digits = meltsjuk_reply((const uint8_t *)r->line, r->length, r->scratch.numbers, r->scratch.length, out, MELTSJUK_REPLY);
     return NULL;
 }
 
@@ -128,7 +233,7 @@ static void *call_count(void *request)
 {
     struct request *r = request;
 
-    r->status = meltsjuk_count(field(r->line, 1, 8), scratch, MELTSJUK_SCRATCH, &r->count);
+    r->status = meltsjuk_count(field(r->line, 1, 8), r->scratch.numbers, r->scratch.length, &r->count);
     return NULL;
 }
 
@@ -138,8 +243,8 @@ static void *call_best(void *request)
 
     r->status = meltsjuk_best(field(r->line, 1, 8), (uint8_t)field(r->line, 9, 1), (uint8_t)field(r->line, 10, 1),
                               (uint8_t)field(r->line, 11, 1), (uint16_t)field(r->line, 12, 2), (uint16_t)field(r->line, 14, 2),
-                              (uint16_t)field(r->line, 16, 2), scratch, MELTSJUK_SCRATCH, places, MELTSJUK_PLACES, &r->position,
-                              &r->k, &r->price);
+                              (uint16_t)field(r->line, 16, 2), r->scratch.numbers, r->scratch.length, places, MELTSJUK_PLACES,
+                              &r->position, &r->k, &r->price);
     return NULL;
 }
 
@@ -151,16 +256,24 @@ static void *call_run(void *request)
     return NULL;
 }
 
+/* Makes a call that is lent a scratch. */
+static void with_scratch(void *(*call)(void *), struct request *r)
+{
+    set_bits(r->scratch);
+    on_small_stack(call, r);
+    must(is_left(r->scratch, MELTSJUK_SCRATCH), "a scratch is not left as it should be");
+}
+
 static void reply_by_count(struct request *r)
 {
-    on_small_stack(call_count, r);
+    with_scratch(call_count, r);
     must(r->status == MELTSJUK_SERVED, "a count is refused");
     printf("00%016" PRIX64 "\n", r->count);
 }
 
 static void reply_by_best(struct request *r)
 {
-    on_small_stack(call_best, r);
+    with_scratch(call_best, r);
     printf("%02X", r->status);
     if (r->status == MELTSJUK_SERVED) {
         printf("%016" PRIX64 "%016" PRIX64 "%02X", field(r->line, 1, 8), r->position, (unsigned)r->k);
@@ -200,10 +313,20 @@ static void reply_by_call(struct request *r)
 
 static void reply_by_line(struct request *r)
 {
-    on_small_stack(call_reply, r);
+    with_scratch(call_reply, r);
     must(r->digits != MELTSJUK_LITTLE_LENT, "a line gets no reply");
     fwrite(out, 1, (size_t)r->digits, stdout);
     putchar('\n');
+}
+
+static void with_each_scratch(void)
+{
+    struct scratch each[3] = {exact, longer, large};
+
+    for (size_t i = 0; i < 3; i++) {
+        on_small_stack(served, &each[i]);
+        on_small_stack(refused, &each[i]);
+    }
 }
 
 int main(int argc, char **argv)
@@ -211,11 +334,13 @@ int main(int argc, char **argv)
     int calls = argc > 1 && strcmp(argv[1], "calls") == 0;
     char *line = NULL;
     size_t room = 0;
+    uint64_t lines = 0;
     ssize_t got;
 
     make_small();
+    make_scratches();
     while ((got = getline(&line, &room, stdin)) > 0) {
-        struct request r = {.line = line, .length = (size_t)got};
+        struct request r = {.line = line, .length = (size_t)got, .scratch = scratch_for(lines++)};
 
         if (line[r.length - 1] == '\n')
             r.length--;
@@ -226,6 +351,7 @@ int main(int argc, char **argv)
     }
     free(line);
     on_small_stack(too_little, NULL);
+    with_each_scratch();
     on_small_stack(refused_runs, NULL);
     must(!ferror(stdin) && fflush(stdout) == 0, "reading or writing failed");
     return 0;

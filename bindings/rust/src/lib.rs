@@ -14,7 +14,7 @@
 //! ```
 #![warn(missing_docs)]
 
-const SCRATCH: usize = 5248;
+const SCRATCH: usize = 512;
 const PLACES: usize = 64;
 const REPLY: usize = 514;
 
@@ -165,7 +165,7 @@ impl Default for Terminal {
 }
 
 impl Terminal {
-    /// A terminal, with some 42 kB of memory.
+    /// A terminal, with some 5 kB of memory.
     pub fn new() -> Self {
         Terminal { scratch: vec![0; SCRATCH], places: [0; PLACES], reply: [0; REPLY] }
     }

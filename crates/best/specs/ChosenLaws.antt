@@ -1,44 +1,34 @@
 -- How the answer of the best chain comes out, case by case.
 --
--- In this order: the chosen word stands in the list of n; what holds at each return of the best chain; too little is lent; no word;
--- the chosen word.
-use mathlib.Core.Path.{_≡_, refl, sym, _∙_}
+-- In this order: what holds at each return of the best chain; too little is lent; no word; the chosen word, with its chain in the
+-- places and its position.
+use mathlib.Core.Path.{_≡_, refl, ap, ap₂, _∙_}
 use mathlib.Core.Bool.{true}
-use mathlib.Core.List.{List, [], map}
+use mathlib.Core.List.{List, map, List·Memᴰ}
 use mathlib.Core.Option.{none}
 use Prim.Native.Nat.{ℕ, _≤_}
 use native.Mathlib.Omega.{arith}
-use borrow.Rule.Slice.PartMut.{midOf, putMid}
-use lib.ListN.{length, take}
-use Rattle.chains.specs.Words.{chainOf}
+use borrow.Author.Tests.{le-ltb}
+use lib.ListN.{length}
+use Rattle.chains.specs.Chains.{Part}
+use Rattle.chains.specs.Words.{Word, chainOf}
 use Rattle.chains.specs.Listing.{listOf, countBefore, position}
-use Rattle.chains.specs.Weight.{total-chainOf}
-use Rattle.chains.specs.Members.{member-words}
 use Rattle.chains.specs.RoundTrip.{word-chain-word}
 use Rattle.chains.specs.Best.{Prices, Limits, bestChain}
-use Rattle.lent.specs.Lent.{zeros, filled, OnlyFirst, scratchSize, scratchLeft, tooLittle, Enough}
-use Rattle.lent.specs.LentLaws.{cleared, enough-zeroed}
+use Rattle.lent.specs.Lent.{filled, OnlyFirst, scratchSize, littleScratch, scratchLeft, tooLittle, Enough}
+use Rattle.lent.specs.LentLaws.{enough-zeroed, scratch-enough, used-left}
 use Rattle.parts.specs.Parts.{partNumber}
+use Rattle.words.specs.Packed.{bits, rise, packedChain, partsLeft}
+use Rattle.words.specs.PackedLaws.{packed-chain}
+use Rattle.counting.specs.Ranked.{beforeOf}
+use Rattle.counting.specs.declared.Counted.{Counted}
+use Rattle.counting.specs.declared.Counted.the-variants as counted
 use Rattle.ranking.specs.Services.{Outcome, gives, lent, placesLeft}
 use Rattle.ranking.specs.RoundTrips.{lent-all}
-use Rattle.ranking.specs.Walks.{Listed}
 use Rattle.best.specs.declared.Chosen.{Chosen}
 use Rattle.best.specs.declared.Chosen.the-variants.{Chain, Refused}
 use Rattle.best.specs.Chosen.{orNone, bestOutcome, chosenOf}
 use Rattle.best.specs.Choosing.{WordChosen}
-
--- The chosen word stands in the list of n, and there is room for the count table.
-pub word-listed : {n : ℕ} {lim : Limits} {π : Prices} {letters : List ℕ} {i k told : ℕ} {s l : List ℕ}
-    → WordChosen n lim π letters i k told
-    → scratchSize ≤ length s
-    → OnlyFirst scratchSize s l
-    → Listed n (take i letters) l
-unfolding listOf
-word-listed {n} {letters = letters} {i = i} w h u =
-    record {
-      member = member-words true n (take i letters) .1 (w .good, sym (total-chainOf (take i letters)) ∙ w .number);
-      room = omega (arith, u .same);
-    }
 
 -- ---- at a return of the best chain
 
@@ -52,37 +42,54 @@ module _ (π : Prices) (o : Outcome) (s p : List ℕ) where
   unfolding chosenOf lent placesLeft scratchLeft
   little e = rw e (refl, (refl, refl))
 
-module _ (π : Prices) (n : ℕ) (lim : Limits) {s p : List ℕ} (h : Enough 64 s p) where
+module _ (π : Prices) (n : ℕ) (lim : Limits) {s p : List ℕ} (h : Enough 64 s p) {l : List ℕ} (u : OnlyFirst scratchSize s l) where
+  size : scratchSize ≤ length l
+  size = omega (arith, h .numbers, u .same)
+
   -- ---- no word
 
-  pub none-served : {l ys p′ : List ℕ} → OnlyFirst scratchSize s l → (bestChain n lim π ≡ none) × (p′ ≡ p)
-      → ys ≡ zeros (length (midOf 0 scratchSize l))
-      → Served π (bestOutcome n lim π) s p (Refused 5) p′ (putMid 0 scratchSize l ys)
+  pub none-served : {s′ : List ℕ} → bestChain n lim π ≡ none → s′ ≡ scratchLeft (littleScratch l) l
+      → Served π (bestOutcome n lim π) s p (Refused 5) p s′
   unfolding bestOutcome orNone chosenOf placesLeft
-  none-served {l} {ys} u e z =
-      rw (lent-all s p (bestOutcome n lim π) h, enough-zeroed 64 s p h, e .0)
-      (refl, (e .1, cleared scratchSize s l ys (omega (arith, h .numbers, u .same)) (u .later) z))
+  none-served e z = rw (lent-all s p (bestOutcome n lim π) h, enough-zeroed 64 s p h, e) (refl, (refl, z ∙ used-left (h .numbers) u))
 
   -- ---- the chosen word
 
-  module _
-      {letters : List ℕ} {i k told : ℕ} (w : WordChosen n lim π letters i k told) {l : List ℕ} (u : OnlyFirst scratchSize s l)
-    where
-      best : bestOutcome n lim π ≡ gives n (chainOf (take i letters))
-      unfolding bestOutcome orNone
-      best = rw (w .chain)
+  module _ {rises marks told : ℕ} (w : WordChosen n lim π rises marks told) where
+    best : bestOutcome n lim π ≡ gives n (chainOf (w .word))
+    unfolding bestOutcome orNone
+    best = rw (w .chain)
 
-      -- The position of the word is that of its chain.
-      placed : {at : ℕ} → at ≡ countBefore (take i letters) (listOf n) → at ≡ position n (chainOf (take i letters))
+    -- Its chain is that of the two numbers,
+    chain-is : packedChain rises marks ≡ chainOf (w .word)
+    chain-is = ap₂ packedChain (w .rising) (w .marking) ∙ packed-chain (w .word) (w .good) (w .few)
+
+    -- its part numbers are put in the places,
+    stands : partsLeft rises marks p ≡ filled 64 (map partNumber (chainOf (w .word))) p
+    unfolding partsLeft
+    stands = rw (le-ltb (length p) 64 (h .room)) (ap (λ (c : List Part). filled 64 (map partNumber c) p) chain-is)
+
+    -- and it is counted: the scratch is large enough.
+    module _ {r : Counted} (e : (v : Word) → List·Memᴰ v (listOf n) → rises ≡ bits rise v → r ≡ beforeOf n v l) where
+      counts : r ≡ counted.Count (countBefore (w .word) (listOf n))
+      unfolding beforeOf
+      counts = e (w .word) (w .member) (w .rising) ∙ rw (scratch-enough l size)
+
+      pub not-refused : {x : ℕ} → r ≡ counted.Refused x → ⊥
+      not-refused f = let z : _≡_ {A = ℕ} 0 1 = cc (counts) in omega arith
+
+      placed : {at : ℕ} → r ≡ counted.Count at → at ≡ position n (chainOf (w .word))
       unfolding position
-      placed e = e ∙ rw (word-chain-word (take i letters) (w .good))
+      placed {at} f =
+          let c : at ≡ countBefore (w .word) (listOf n) = cc (counts) in
+          c ∙ rw (word-chain-word (w .word) (w .good))
 
-      pub word-served : {p′ s′ : List ℕ} {at : ℕ}
-          → at ≡ countBefore (take i letters) (listOf n)
-          → p′ ≡ filled 64 (map partNumber (chainOf (take i letters))) p
-          → s′ ≡ filled scratchSize [] l
+      pub word-served : {at k : ℕ} {p′ s′ : List ℕ} → r ≡ counted.Count at
+          → k ≡ length (packedChain rises marks)
+          → p′ ≡ partsLeft rises marks p
+          → s′ ≡ scratchLeft (littleScratch l) l
           → Served π (bestOutcome n lim π) s p (Chain at k told) p′ s′
       unfolding chosenOf placesLeft filled
-      word-served e f g =
+      word-served f ek ep es =
           rw (lent-all s p (bestOutcome n lim π) h, best, enough-zeroed 64 s p h)
-          (cc (placed e, w .part-count, w .told), (f, g ∙ rw (u .later)))
+          (cc (placed f, ek, ap length chain-is, w .told), (ep ∙ stands, es ∙ used-left (h .numbers) u))

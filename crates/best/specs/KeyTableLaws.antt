@@ -1,24 +1,28 @@
 -- The cells of the key table.
 --
--- In this order: the costs of the prices; a cell whose point is outside the grid, and where its rest is 1; a cell from the one
--- right of it and the one above it, by bits that choose, as a row is filled (`after-by-bits`, `free-by-bits`).
-use mathlib.Core.Path.{_≡_, refl, ap, fun-ext, _∙_}
+-- In this order: the costs of the prices; a cell whose point is outside the grid, and where its rest is 1; choices by a bit and by
+-- a test; a cell from the one right of it and the one above it, by bits that choose, as a row is filled (`free-by-bits`,
+-- `after-by-bits`, `turn-by-bits`).
+use mathlib.Core.Path.{_≡_, refl, sym, ap, fun-ext, _∙_}
 use mathlib.Core.Logic.{_⊎_, ⊎-elim}
 use mathlib.Core.Bool.{Bool, true, false, cond}
 use mathlib.Core.List.{List}
-use mathlib.Core.Option.{Option, none, some}
-use Prim.Native.Nat.{ℕ, zero, suc, _+_, _-_, _/_, _%_, _≤_, _<_, min}
+use Prim.Native.Nat.{ℕ, zero, suc, _+_, _/_, _%_, _≤_, _<_, min}
+use native.Mathlib.Decide.{decLt}
+use native.Mathlib.Nat.{lt-of-not-le}
 use native.Mathlib.Omega.{arith}
-use lib.Dec.{T}
+use lib.Dec.{T, ltb}
 use lib.ListN.{getD}
+use borrow.Author.Tests.{le-ltb, lt-ltb}
 use Rattle.chains.specs.Chains.{Part}
-use Rattle.chains.specs.Words.{Word, right, up}
+use Rattle.chains.specs.Words.{right, up}
 use Rattle.chains.specs.Best.{Prices}
 use Rattle.chains.specs.Members.{rises}
-use Rattle.chains.specs.Keys.{inside, bestAt, keyOr, leastKey}
-use Rattle.chains.specs.Bests.{inside-bounds, least-step, least-one, least-outside}
+use Rattle.chains.specs.Keys.{inside}
+use Rattle.chains.specs.Bests.{keyA, inside-bounds, least-step, least-one, least-outside}
 use Rattle.chains.specs.BestOfAll.{letterCost, costsOf}
-use Rattle.best.specs.KeyTable.{partWeight, noKey, letterCosts, letterBy, costsBy, Low, Cheap, keyCell, thirdKey, pick}
+use Rattle.best.specs.KeyTable.{partWeight, noKey, letterCosts, letterBy, costsBy, Low, Cheap}
+use Rattle.best.specs.KeyTable.{keyCell, thirdKey, halfKey, turnAt, pick, less}
 
 -- ---- costs
 
@@ -44,19 +48,11 @@ prices-costs π = ap (λ (f : ℕ → ℕ). record { letter = f; last = partWeig
     same (suc (suc (suc zero))) = refl
     same (suc (suc (suc (suc l)))) = refl
 
--- ---- the meaning of a cell
+-- ---- a cell
 
 module _ (costs : List ℕ) (A B a b : ℕ) (f : Bool) where
   abbrev point : Part
   point = record { a = a; b = b }
-
-  pub cell-at-most : (m : ℕ) → keyCell costs A B a b f m ≤ noKey
-  unfolding leastKey keyOr
-  cell-at-most m = go (bestAt (costsBy costs) A B f point m)
-    where
-      go : (o : Option Word) → keyOr noKey (costsBy costs) o ≤ noKey
-      go none = omega arith
-      go (some w) = omega arith
 
   -- Outside the grid there is no word.
   pub cell-outside : (m : ℕ) → 1 ≤ m → (A < a) ⊎ (B < b) → keyCell costs A B a b f m ≡ noKey
@@ -71,16 +67,44 @@ module _ (costs : List ℕ) (A B a b : ℕ) (f : Bool) where
       go true h = omega (arith, low .each 4)
       go false h = absurd h
 
--- ---- a cell from its neighbours
+-- ---- choices
 
 pub pick-low : (bit x y k : ℕ) → x ≤ k → y ≤ k → pick bit x y ≤ k
 unfolding pick
 pick-low zero x y k h l = l
 pick-low (suc bit) x y k h l = h
 
--- Both numbers of a cell from a rest of 2 on, where h is the second of the cell right of it and u the first of the cell above it.
--- The bits are those of the rest and of the masks of its row (grid, Masks). A sum x with u is chosen only where something is left
--- above; elsewhere it may be any number.
+pub less-low : (x y : ℕ) → less x y ≤ 1
+unfolding less
+less-low x y = go (ltb x y)
+  where
+    go : (b : Bool) → cond b 1 0 ≤ 1
+    go true = omega arith
+    go false = omega arith
+
+pub less-one : (x y : ℕ) → less x y ≡ 1 → x < y
+unfolding less
+less-one x y e = lt-of-not-le (λ (h : y ≤ x). let z : _≡_ {A = ℕ} 0 1 = rw (le-ltb x y h) at e in omega arith)
+
+pub less-zero : (x y : ℕ) → less x y ≡ 0 → y ≤ x
+unfolding less
+less-zero x y e =
+    let p : y < suc x = lt-of-not-le (λ (h : x < y). let z : _≡_ {A = ℕ} 1 0 = rw (lt-ltb x y h) at e in omega arith) in
+    omega arith
+
+-- Of two numbers whose least stands for a key that is a word's, the test is that of the keys.
+less-cut : (t after c key : ℕ) → min noKey (min t (after + c)) ≡ key → key < noKey
+    → less t (after + c) ≡ less key (min noKey after + c)
+unfolding less
+less-cut t after c key e h = go (decLt t (after + c))
+  where
+    go : Dec (t < after + c) → less t (after + c) ≡ less key (min noKey after + c)
+    go (yes l) = rw (lt-ltb t (after + c) l, lt-ltb key (min noKey after + c) (omega arith)) refl
+    go (no l) = rw (le-ltb t (after + c) (omega arith), le-ltb key (min noKey after + c) (omega arith)) refl
+
+-- ---- a cell from its neighbours
+
+-- From a rest of 2 on. The bits are those of the rest and of the masks of its row (grid, Masks).
 module _ (costs : List ℕ) (A B a b m : ℕ) (two : 2 ≤ m) where
   abbrev h : ℕ
   h = keyCell costs A B (suc a) b false (m / 2)
@@ -88,40 +112,58 @@ module _ (costs : List ℕ) (A B a b m : ℕ) (two : 2 ≤ m) where
   abbrev u : ℕ
   u = keyCell costs A B a (suc b) true (m / 3)
 
-  abbrev beside : ℕ
-  beside = h + pick (m % 2) (getD costs 1 0) (getD costs 0 0)
+  abbrev c : ℕ
+  c = pick (m % 2) (getD costs 1 0) (getD costs 0 0)
 
-  -- The least of both steps, by a rise of a and by a rise of b.
-  step : (f : Bool) → keyCell costs A B a b f m ≡ min noKey (min beside (thirdKey costs f (m % 3) u))
-  unfolding right up letterBy pick
-  step f = least-step noKey (costsBy costs) A B f (record { a = a; b = b }) m two ∙ rw (half (m % 2) (omega arith))
+  -- The key by a rise of a.
+  pub half-key : keyA noKey (costsBy costs) A B (record { a = a; b = b }) m ≡ halfKey costs A B a b m
+  unfolding right letterBy pick
+  half-key = half (m % 2) (omega arith)
     where
       half : (r : ℕ) → r < 2 → letterBy costs r + h ≡ h + pick r (getD costs 1 0) (getD costs 0 0)
       half zero l = omega arith
       half (suc zero) l = omega arith
       half (suc (suc r)) l = absurd (omega arith)
 
-  pub after-by-bits : (x : ℕ) → (3 ≤ m → x ≡ u + getD costs 3 0)
-      → keyCell costs A B a b false m ≡ min beside (min noKey (pick (m % 3 % 2) x noKey))
-  unfolding pick rises letterBy
-  after-by-bits x is = step false ∙ go (m % 3) refl
-    where
-      go : (r : ℕ) → m % 3 ≡ r
-          → min noKey (min beside (thirdKey costs false r u)) ≡ min beside (min noKey (pick (r % 2) x noKey))
-      go zero e = omega arith
-      go (suc zero) e = omega (arith, is (omega arith))
-      go (suc (suc zero)) e = omega arith
-      go (suc (suc (suc r))) e = absurd (omega arith)
+  -- The least of both steps, by a rise of a and by a rise of b.
+  pub cell-step : (f : Bool) → keyCell costs A B a b f m ≡ min noKey (min (halfKey costs A B a b m) (thirdKey costs f (m % 3) u))
+  unfolding right up
+  cell-step f = least-step noKey (costsBy costs) A B f (record { a = a; b = b }) m two ∙ rw half-key
 
-  pub free-by-bits : (x : ℕ) → (3 ≤ m → x ≡ u + getD costs 2 0)
-      → keyCell costs A B a b true m ≡ min (keyCell costs A B a b false m) (pick ((2 - m % 3) / 2) x noKey)
-  unfolding pick rises letterBy
-  free-by-bits x is = rw (step true, step false) (go (m % 3) refl)
+  -- The numbers of the cell from `after`, which stands for the key right of it, and `above`, which stands for the key above it if
+  -- something is left there. Else the sum may be any number, and is not chosen.
+  module _
+      (after above sum : ℕ) (beside : min noKey after ≡ h) (over : 3 ≤ m → min noKey above ≡ u)
+      (is : 3 ≤ m → sum ≡ above + pick (m % 3 % 2) (getD costs 3 0) (getD costs 2 0))
     where
-      go : (r : ℕ) → m % 3 ≡ r
-          → min noKey (min beside (thirdKey costs true r u))
-          ≡ min (min noKey (min beside (thirdKey costs false r u))) (pick ((2 - r) / 2) x noKey)
-      go zero e = omega (arith, is (omega arith))
-      go (suc zero) e = omega arith
-      go (suc (suc zero)) e = omega arith
-      go (suc (suc (suc r))) e = absurd (omega arith)
+      abbrev half : ℕ
+      half = after + c
+
+      abbrev third : ℕ
+      third = pick (m % 3 / 2) noKey sum
+
+      pub free-by-bits : min noKey (min third half) ≡ keyCell costs A B a b true m
+      unfolding pick rises letterBy
+      free-by-bits = sym (cell-step true ∙ go (m % 3) refl)
+        where
+          go : (r : ℕ) → m % 3 ≡ r
+              → min noKey (min (h + c) (thirdKey costs true r u)) ≡ min noKey (min (pick (m % 3 / 2) noKey sum) half)
+          go zero e = rw e (omega (arith, beside, over (omega arith), rw e at (is (omega arith))))
+          go (suc zero) e = rw e (omega (arith, beside, over (omega arith), rw e at (is (omega arith))))
+          go (suc (suc zero)) e = rw e (omega (arith, beside))
+          go (suc (suc (suc r))) e = absurd (omega arith)
+
+      pub after-by-bits : min noKey (pick (m % 3 % 2) (min third half) half) ≡ keyCell costs A B a b false m
+      unfolding pick rises letterBy
+      after-by-bits = sym (cell-step false ∙ go (m % 3) refl)
+        where
+          go : (r : ℕ) → m % 3 ≡ r
+              → min noKey (min (h + c) (thirdKey costs false r u))
+              ≡ min noKey (pick (m % 3 % 2) (min (pick (m % 3 / 2) noKey sum) half) half)
+          go zero e = rw e (omega (arith, beside))
+          go (suc zero) e = rw e (omega (arith, beside, over (omega arith), rw e at (is (omega arith))))
+          go (suc (suc zero)) e = rw e (omega (arith, beside))
+          go (suc (suc (suc r))) e = absurd (omega arith)
+
+      pub turn-by-bits : keyCell costs A B a b true m < noKey → less third half ≡ turnAt costs A B a b m
+      turn-by-bits low = rw (← beside) (less-cut third after c (keyCell costs A B a b true m) free-by-bits low)

@@ -1,10 +1,10 @@
 -- The best chain. What a reader must believe: Chosen (what the best chain answers). The theorem on it:
 --   Demand3   the answer and the places are those of the best chain, and 5 comes exactly where none fits
 -- What the contracts of the private functions name; the laws of X are in XLaws:
---   KeyTable  what a cell of the key table holds
---   KeyRows   what the calls that fill the key table ask and leave
---   Walk      the walk along it that writes the best word and the numbers of its parts
---   Choosing  the word of the best chain within limits, and the numbers of its parts
+--   KeyTable  the least key at a point, what a row of keys holds of it, and the turns of a row
+--   KeyRows   what the calls that fill the rows of keys ask and leave
+--   Walk      the walk along the turns that finds the best word
+--   Choosing  the word of the best chain within limits
 pub mod Chosen
 pub mod KeyTable
 pub mod KeyTableLaws

@@ -1,10 +1,10 @@
 // The best chain within limits: the fewest parts, then the lowest price, then the earliest position.
 mod choosing;
 mod keys;
-mod placing;
 mod walk;
 
 use choosing::Choice;
+use counting::Counted;
 ghost use mathlib.Core.Path.{_≡_};
 ghost use Rattle.lent.specs.Lent.{tooLittle, scratchLeft};
 ghost use Rattle.ranking.specs.Services.{lent, placesLeft};
@@ -59,14 +59,20 @@ pub fn best_chain(
     if places.len() < 64 {
         return Chosen::Refused(1);
     }
-    let mut letters = [0u8; 64];
-    match choosing::choose(n, limits, prices, scratch, &mut letters, places) {
-        Choice::Word { length, k, price } => {
-            let position = placing::position_of(n, &letters[0..length], scratch);
+    match choosing::choose(n, limits, prices, scratch) {
+        Choice::Word {
+            rises,
+            marks,
+            price,
+        } => {
+            let k = words::put_parts(rises, marks, places);
+            let Counted::Count(position) = counting::position_of(n, rises, scratch) else {
+                return Chosen::Refused(1);
+            };
             Chosen::Chain { position, k, price }
         }
         Choice::Nothing => {
-            lent::clear_u64(&mut scratch[0..lent::SCRATCH]);
+            lent::clear_scratch(scratch);
             Chosen::Refused(5)
         }
     }

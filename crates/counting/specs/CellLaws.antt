@@ -1,11 +1,11 @@
 -- The cells of a table of counts (Table).
 --
--- In this order: one row step serves every row; each cell from the one right of it and the one above it, with no choice on the
--- remainder; the count of n in a table.
+-- In this order: each cell from the one right of it and the one above it, with no choice on the remainder; reading a cell, and the
+-- count of n.
 use mathlib.Core.Path.{_≡_, refl, _∙_}
 use mathlib.Core.Bool.{Bool, true, false}
 use mathlib.Core.List.{List}
-use Prim.Native.Nat.{ℕ, zero, suc, _+_, _-_, _*_, _/_, _%_, _≤_}
+use Prim.Native.Nat.{ℕ, zero, suc, _+_, _-_, _*_, _/_, _%_, _≤_, _<_, max}
 use native.Mathlib.Omega.{arith}
 use lib.ListN.{getD}
 use Rattle.chains.specs.Listing.{ways, count}
@@ -18,29 +18,10 @@ use Rattle.chains.specs.Counts.{
   ways-at-most,
   ways-pos,
 }
-use Rattle.grid.specs.Grid.{RowFrom, Table, RowAsked, RowFilled}
+use Rattle.grid.specs.Grid.{restAt, rowPlace}
 use Rattle.grid.specs.Rests.{rest-origin}
-use Rattle.grid.specs.Fill.{read-free}
-use Rattle.counting.specs.Table.{countCell}
-
--- ---- one step for every row
-
--- A cell does not depend on its row, so one row step serves every row: it fills the row at the start of its part as row 0.
-row-of-any : {b m j : ℕ} {l : List ℕ} (c : ℕ) → RowFrom countCell b m j l → RowFrom countCell c m j l
-row-of-any c r = record { free = r .free; after-a = r .after-a }
-
-pub asked-of-any : {b m q : ℕ} {part : List ℕ} (c : ℕ) → RowAsked countCell b m q part → RowAsked countCell c m q part
-asked-of-any c r =
-    record {
-      third = r .third;
-      room = r .room;
-      room-above = r .room-above;
-      above = λ two. row-of-any (suc c) (r .above two);
-    }
-
-pub filled-of-any : {b m j : ℕ} {entry part : List ℕ} (c : ℕ) → RowFilled countCell b m j entry part
-    → RowFilled countCell c m j entry part
-filled-of-any c f = record { row = row-of-any c (f .row); same = f .same; later = f .later }
+use Rattle.grid.specs.Fill.{read-cell}
+use Rattle.counting.specs.Table.{countCell, CountRows}
 
 -- ---- the cells
 
@@ -69,8 +50,21 @@ module _ (m x : ℕ) (two : 2 ≤ m) (above : 1 ≤ m / 3 → x ≡ ways true (m
       go (suc (suc zero)) e = omega (arith, ways-rem-2 true m e, ways-rem-2 false m e)
       go (suc (suc (suc r))) e = absurd (omega arith)
 
--- ---- reading the count
+-- Where b can rise, the free reader counts both ways.
+pub both-ways : (m : ℕ) → 1 ≤ m → m % 3 ≤ 1 → ways true m ≡ ways false (m / 2) + ways true (m / 3)
+both-ways m h l = go (m % 3) refl
+  where
+    go : (r : ℕ) → m % 3 ≡ r → ways true m ≡ ways false (m / 2) + ways true (m / 3)
+    go zero e = ways-rem-0-free m h e
+    go (suc zero) e = ways-rem-1 true m e
+    go (suc (suc r)) e = absurd (omega arith)
 
-pub count-in : (n : ℕ) (l : List ℕ) → 1 ≤ n → Table countCell n l → getD l 0 0 ≡ count n
-count-in n l h t =
-    read-free countCell n l 0 0 t (omega arith) (omega arith) (rw (rest-origin n) h) ∙ rw (rest-origin n, count-ways)
+-- ---- reading
+
+pub read-count : {n k : ℕ} {l : List ℕ} (a b : ℕ) → CountRows n k l → k ≤ b → b ≤ max k 6 → a < 64 → 1 ≤ restAt n a b
+    → getD l (rowPlace 0 6 b + a) 0 ≡ ways true (restAt n a b)
+read-count a b r = read-cell 0 6 countCell (omega arith) a b r
+
+pub count-in : (n : ℕ) (l : List ℕ) → 1 ≤ n → CountRows n 0 l → getD l 0 0 ≡ count n
+count-in n l h r =
+    read-count 0 0 r (omega arith) (omega arith) (omega arith) (rw (rest-origin n) h) ∙ rw (rest-origin n, count-ways)

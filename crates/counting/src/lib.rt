@@ -1,18 +1,40 @@
-// How many chains a number has.
+// How many chains a number has; how many words of its list stand before one of them, and which stands at a position.
 //
-// The plain count works by the recursion of document 01, 'Counting by the remainder', without scratch. The table count fills a
-// table of the counts at all points of the walk, row by row, in the scratch that it is lent.
+// The plain count works by the recursion of document 01, 'Counting by the remainder', without scratch. The others fill the counts at
+// the points of the walk, row by row, in the scratch that they are lent.
+mod back;
+mod forward;
 mod rows;
 mod six_lines;
 
+use std::num::wrapping_add_u64;
 ghost use mathlib.Core.Path.{_≡_};
-ghost use Rattle.lent.specs.Lent.{littleScratch, scratchLeft};
+ghost use mathlib.Core.List.{[], List·Memᴰ};
+ghost use Prim.Native.Nat.{_+_};
+ghost use Rattle.chains.specs.Words.{Word};
+ghost use Rattle.chains.specs.Listing.{listOf, countBefore};
+ghost use Rattle.lent.specs.Lent.{scratchSize, littleScratch, scratchLeft, filled};
+ghost use Rattle.words.specs.Packed.{bits, rise};
+ghost use Rattle.counting.specs.Table.{CountRows};
+ghost use Rattle.counting.specs.Ranked.{beforeOf, listedAt, lentList};
 ghost use Rattle.counting.specs.PlainCount.{plainOf};
-ghost use Rattle.counting.specs.TableCount.{countedOf, tableLeft};
+ghost use Rattle.counting.specs.TableCount.{countedOf};
 
 // What a count answers: the count, or the number of the refusal.
 pub enum Counted {
     Count(u64),
+    Refused(u8),
+}
+
+// A word of the list of n in two numbers, a bit a letter, the lowest for the first: whether the letter is 2 or 3, where b rises, and
+// whether it is 1 or 3, a part; with its position. Or that the list has ended, or the number of the refusal.
+pub enum Listed {
+    Word {
+        position: u64,
+        rises: u64,
+        marks: u64,
+    },
+    Past,
     Refused(u8),
 }
 
@@ -27,30 +49,76 @@ pub fn plain_count(n: u64) -> Counted
 }
 
 // The count of any n, with a scratch of at least `lent::SCRATCH` numbers of any contents; refusal 1 with a smaller one, and nothing
-// is touched. Leaves the table of the counts at the points of n in the scratch; a cell whose rest is 0 is not written. All rests of
-// the number 0 are 0, so it is answered apart: it has one chain, the empty one.
-pub fn fill_counts(n: u64, scratch: &mut [u64]) -> Counted
-    ensures { λ r. ⌜ r ≡ countedOf n (now (scratch .entry)) ⌝ }
-    ensures { λ _. ⌜ now (scratch .exit) ≡ tableLeft n (now (scratch .entry)) ⌝ }
-{
-    if scratch.len() < lent::SCRATCH {
-        return Counted::Refused(1);
-    }
-    rows::fill_rows(scratch, 0, n);
-    if n == 0 {
-        return Counted::Count(1);
-    }
-    Counted::Count(scratch[0])
-}
-
-// The same, but with the first `lent::SCRATCH` numbers left zero.
+// is touched. Otherwise the first `lent::SCRATCH` numbers are left zero.
 pub fn table_count(n: u64, scratch: &mut [u64]) -> Counted
     ensures { λ r. ⌜ r ≡ countedOf n (now (scratch .entry)) ⌝ }
     ensures { λ _. ⌜ now (scratch .exit) ≡ scratchLeft (littleScratch (now (scratch .entry))) (now (scratch .entry)) ⌝ }
 {
-    let Counted::Count(count) = fill_counts(n, scratch) else {
+    if scratch.len() < lent::SCRATCH {
         return Counted::Refused(1);
-    };
-    lent::clear_u64(&mut scratch[0..lent::SCRATCH]);
+    }
+    rows::fill_down(n, 0, scratch);
+    let count = rows::count_in(n, scratch);
+    lent::clear_scratch(scratch);
     Counted::Count(count)
+}
+
+// How many words of the list of n stand before one of its words, which is its position. `rises` says where b rises in the word, a bit
+// a letter, the lowest for the first. Where b rises so in no word of the list, some number is told. Refusal 1 with too small a
+// scratch, which is left as by the table count.
+pub fn position_of(n: u64, rises: u64, scratch: &mut [u64]) -> Counted
+    ensures { λ r. ⌜ ((w : Word) → List·Memᴰ w (listOf n) → rises ≡ bits rise w → r ≡ beforeOf n w (now (scratch .entry))) ⌝ }
+    ensures { λ _. ⌜ now (scratch .exit) ≡ scratchLeft (littleScratch (now (scratch .entry))) (now (scratch .entry)) ⌝ }
+{
+    if scratch.len() < lent::SCRATCH {
+        return Counted::Refused(1);
+    }
+    let position = back::position_in(n, rises, scratch);
+    lent::clear_scratch(scratch);
+    Counted::Count(position)
+}
+
+// The word at the position i of the list of n, whose rows stand in the scratch, which is zeroed.
+fn listed_at(n: u64, i: u64, scratch: &mut [u64]) -> Listed
+    requires { ⌜ CountRows n 0 (now scratch) ⌝ }
+    ensures { λ r. ⌜ r ≡ listedAt n i ⌝ }
+    ensures { λ _. ⌜ now (scratch .exit) ≡ filled scratchSize [] (now (scratch .entry)) ⌝ }
+{
+    let count = rows::count_in(n, scratch);
+    if count <= i {
+        lent::clear_scratch(scratch);
+        return Listed::Past;
+    }
+    let word = forward::word_in(n, count, i, scratch);
+    lent::clear_scratch(scratch);
+    Listed::Word {
+        position: i,
+        rises: word.rises,
+        marks: word.marks,
+    }
+}
+
+// The word at the position i of the list of n. Refusal 1 with too small a scratch, which is left as by the table count.
+pub fn word_at(n: u64, i: u64, scratch: &mut [u64]) -> Listed
+    ensures { λ r. ⌜ r ≡ lentList (now (scratch .entry)) (listedAt n i) ⌝ }
+    ensures { λ _. ⌜ now (scratch .exit) ≡ scratchLeft (littleScratch (now (scratch .entry))) (now (scratch .entry)) ⌝ }
+{
+    if scratch.len() < lent::SCRATCH {
+        return Listed::Refused(1);
+    }
+    rows::fill_down(n, 0, scratch);
+    listed_at(n, i, scratch)
+}
+
+// The word after a word of the list of n, told by where b rises in it (`position_of`). The rows are filled once for both.
+pub fn word_after(n: u64, rises: u64, scratch: &mut [u64]) -> Listed
+    ensures { λ r. ⌜ ((w : Word) → List·Memᴰ w (listOf n) → rises ≡ bits rise w
+        → r ≡ lentList (now (scratch .entry)) (listedAt n (countBefore w (listOf n) + 1))) ⌝ }
+    ensures { λ _. ⌜ now (scratch .exit) ≡ scratchLeft (littleScratch (now (scratch .entry))) (now (scratch .entry)) ⌝ }
+{
+    if scratch.len() < lent::SCRATCH {
+        return Listed::Refused(1);
+    }
+    let position = back::position_in(n, rises, scratch);
+    listed_at(n, wrapping_add_u64(position, 1), scratch)
 }

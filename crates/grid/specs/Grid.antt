@@ -1,77 +1,86 @@
--- A table over the points (a, b) with a below 64 and b below 41, two numbers a point, one for each reader: the scratch of document
--- 01. Row b stands at 128 × b; in it, column a at 2 × a, the number of the reader at the start and after b has risen
--- first, that of the reader after a has risen second.
+-- The scratch of 512 numbers (document 02, T-03): eight blocks of 64.
 --
--- What a cell means is a function of its point, its reader and its rest.
--- Definitions only: rows and tables that are right, then what the calls that fill them ask and leave. The laws by which a row and a
--- table are filled and read are in Fill and Kept, those of rests in Rests, those of their remainders by three in MaskLaws.
+-- A table over the points (a, b) with a below 64 and b below 41 has one number a point: that of the free reader, at the start and
+-- after b has risen. A row is one block, with column a at a. The rows below `keep` have blocks of their own, from `first` on. Row
+-- `keep` and those above it take turns in the block behind these: each is filled over the row above it. The last block has the rests
+-- of the rows' first columns.
+--
+-- What a number means is a relation of its point, its rest and the number.
+-- Definitions only: rests; rows that are right; what a row step asks and leaves; the rows in the scratch. The laws by which rows are
+-- filled and read are in Fill, those of rests in Rests, those of their remainders by three in MaskLaws.
 use mathlib.Core.Path.{_≡_}
-use mathlib.Core.Bool.{Bool, true, false}
-use mathlib.Core.List.{List}
-use Prim.Native.Nat.{ℕ, suc, _+_, _-_, _*_, _^_, _/_, _%_, _≤_, _<_}
+use mathlib.Core.Bool.{cond}
+use mathlib.Core.List.{List, [], _∷_}
+use Prim.Native.Nat.{ℕ, zero, suc, _+_, _*_, _^_, _/_, _≤_, _<_, min, max}
+use lib.Dec.{eqb}
 use lib.ListN.{length, getD, drop}
-use Rattle.lent.specs.Lent.{scratchSize}
+use Rattle.lent.specs.Lent.{scratchSize, OnlyFirst}
 
 -- The rest at the point (a, b) of the table of n.
 abbrev pub restAt : ℕ → ℕ → ℕ → ℕ
 restAt n a b = n / 3 ^ b / 2 ^ a
 
--- What a cell holds: of a, b, the reader and the rest.
-abbrev pub Meaning : Type 0
-Meaning = ℕ → ℕ → Bool → ℕ → ℕ
+-- The rests of the first columns of k rows, the first of which has the rest m,
+unfoldable pub restsOf : ℕ → ℕ → List ℕ
+restsOf m zero = []
+restsOf m (suc k) = m ∷ restsOf (m / 3) k
+
+-- and in how many of these rows something is left.
+unfoldable pub liveRows : ℕ → ℕ → ℕ
+liveRows m zero = 0
+liveRows m (suc k) = cond (eqb m 0) 0 (suc (liveRows (m / 3) k))
+
+-- Whether a number is right: of a, b, the rest and the number.
+abbrev pub Meaning : Type 1
+Meaning = ℕ → ℕ → ℕ → ℕ → Type 0
 
 -- The columns from j on of row b, at the start of l, are right wherever something is left, where m is the rest of the row's first
 -- column. Cells whose rest is 0 are unspecified: no walk comes there, and where filling reads one, above a rest of 2, no number
 -- depends on it.
 pub record RowFrom (G : Meaning) (b m j : ℕ) (l : List ℕ) : Type 0 where
-  pub free : (i : ℕ) → j ≤ i → i < 64 → 1 ≤ m / 2 ^ i → getD l (2 * i) 0 ≡ G i b true (m / 2 ^ i)
-  pub after-a : (i : ℕ) → j ≤ i → i < 64 → 1 ≤ m / 2 ^ i → getD l (2 * i + 1) 0 ≡ G i b false (m / 2 ^ i)
+  pub cell : (i : ℕ) → j ≤ i → i < 64 → 1 ≤ m / 2 ^ i → G i b (m / 2 ^ i) (getD l i 0)
 
 -- Row b, whole.
 abbrev pub Row : Meaning → ℕ → ℕ → List ℕ → Type 0
 Row G b m l = RowFrom G b m 0 l
 
--- The rows from b on of a scratch l are right, where m is the rest of row b's first column.
-pub record RowsFrom (G : Meaning) (b m : ℕ) (l : List ℕ) : Type 0 where
-  pub row : (i : ℕ) → b ≤ i → i < 41 → Row G i (m / 3 ^ (i - b)) (drop (128 * i) l)
+-- ---- filling a row
 
--- The table of n.
-abbrev pub Table : Meaning → ℕ → List ℕ → Type 0
-Table G n l = RowsFrom G 0 n l
-
--- ---- filling
-
--- What a row step is lent: the part of the scratch that begins at its row, and from a rest of 2 on the row above behind it, which
--- is right; q is the rest of that row's first column. A rest of at most 1 needs no row above, so the last row is no special case.
-pub record RowAsked (G : Meaning) (b m q : ℕ) (part : List ℕ) : Type 0 where
+-- What a row step is lent: the part of the scratch that begins at its row, with the row above, which is right, at `up`. At 0 the row
+-- is filled over the row above. q is the rest of that row's first column.
+pub record RowAsked (G : Meaning) (b m q up : ℕ) (part : List ℕ) : Type 0 where
   pub third : q ≡ m / 3
-  pub room : 128 ≤ length part
-  pub room-above : 2 ≤ m → 256 ≤ length part
-  pub above : 2 ≤ m → Row G (suc b) q (drop 128 part)
+  pub room : up + 64 ≤ length part
+  pub apart : 0 < up → 64 ≤ up
+  pub above : Row G (suc b) q (drop up part)
 
 -- The columns from j on are filled, and what stands behind the row is as it was at entry.
 pub record RowFilled (G : Meaning) (b m j : ℕ) (entry part : List ℕ) : Type 0 where
   pub row : RowFrom G b m j part
   pub same : length part ≡ length entry
-  pub later : drop 128 part ≡ drop 128 entry
+  pub later : drop 64 part ≡ drop 64 entry
 
--- What stands in the columns where nothing is left, m being the rest of the row's first column, is as it was at entry.
-pub record RowKept (m : ℕ) (entry part : List ℕ) : Type 0 where
-  pub dead : (i : ℕ) → i < 128 → m / 2 ^ (i / 2) ≡ 0 → getD part i 0 ≡ getD entry i 0
+-- While it is filled from its last column down, the columns below k of the row above are as they were at entry.
+pub record Ahead (up k : ℕ) (entry part : List ℕ) : Type 0 where
+  pub unread : (i : ℕ) → i < k → getD part (up + i) 0 ≡ getD entry (up + i) 0
 
--- What filling the rows from b on is lent: a scratch. m is the rest of row b's first column, so that m × 3^b is at most n.
-pub record RowsAsked (b m : ℕ) (l : List ℕ) : Type 0 where
-  pub last : b ≤ 41
-  pub room : scratchSize ≤ length l
-  pub below : m * 3 ^ b < 2 ^ 64
+-- ---- the rows in the scratch
 
--- The rows from b on are filled, and what stands behind the table is as it was at entry.
-pub record RowsFilled (G : Meaning) (b m : ℕ) (entry l : List ℕ) : Type 0 where
-  pub rows : RowsFrom G b m l
-  pub same : length l ≡ length entry
-  pub later : drop scratchSize l ≡ drop scratchSize entry
+-- Where row b begins.
+abbrev pub rowPlace : ℕ → ℕ → ℕ → ℕ
+rowPlace first keep b = first + 64 * min b keep
 
--- The same of the rows from b on: where nothing is left, every number is as it was at entry. The number i stands in row i / 128 and
--- in column i % 128 / 2.
-pub record RowsKept (b m : ℕ) (entry l : List ℕ) : Type 0 where
-  pub dead : (i : ℕ) → b ≤ i / 128 → m / 3 ^ (i / 128 - b) / 2 ^ (i % 128 / 2) ≡ 0 → getD l i 0 ≡ getD entry i 0
+-- Where the rests begin. There are 42: row 40 is the last, and its step asks for the rest of the row above it.
+abbrev pub restsPlace : ℕ
+restsPlace = 448
+
+-- The rows of n are filled from the last one down to row k. Row k is there, and above it those up to row `keep`.
+pub record RowsFrom (first keep : ℕ) (G : Meaning) (n k : ℕ) (l : List ℕ) : Type 0 where
+  pub size : scratchSize ≤ length l
+  pub rests : (j : ℕ) → j < 42 → getD l (restsPlace + j) 0 ≡ n / 3 ^ j
+  pub row : (j : ℕ) → k ≤ j → j ≤ max k keep → Row G j (n / 3 ^ j) (drop (rowPlace first keep j) l)
+
+-- The same, and what stands behind the scratch is as it was at entry.
+pub record RowsFilled (first keep : ℕ) (G : Meaning) (n k : ℕ) (entry l : List ℕ) : Type 0 where
+  pub rows : RowsFrom first keep G n k l
+  pub used : OnlyFirst scratchSize entry l

@@ -7,7 +7,7 @@ use native.Mathlib.Omega.{arith}
 use lib.Bits.{bitXor, bitOr, xor-shr, or-shr, xor-add-and, or-step, xor-lt, or-lt, and-mask}
 use lib.Pow.{high, ones-split, ones-lt, pow-pos, shr-shr}
 use Rattle.grid.specs.Rests.{half-of-rest, third-of-rest}
-use Rattle.grid.specs.Masks.{onesOf, nonzerosOf, zerosOf}
+use Rattle.grid.specs.Masks.{onesOf, nonzerosOf, zerosOf, twosOf}
 
 -- ---- bits
 
@@ -73,3 +73,15 @@ zeros-bit m a fits h = not-bit 64 (nonzerosOf m (m / 3)) a below h ∙ omega (ar
 
     below : nonzerosOf m (m / 3) < 2 ^ 64
     below = or-lt 64 ones (bitXor (ones / 2) m) ones-below (xor-lt 64 (ones / 2) m (omega (arith, ones-below)) fits)
+
+-- The sum of two bits that say of a remainder whether it is not 0, and whether it is 1.
+neither : (x y r : ℕ) → r < 3 → x % 2 ≡ (r + 1) / 2 → y % 2 ≡ r % 2 → (x + y) % 2 ≡ r / 2
+neither x y zero h e d = omega arith
+neither x y (suc zero) h e d = omega arith
+neither x y (suc (suc zero)) h e d = omega arith
+neither x y (suc (suc (suc r))) h e d = absurd (omega arith)
+
+pub twos-bit : (m a : ℕ) → twosOf m (m / 3) / 2 ^ a % 2 ≡ m / 2 ^ a % 3 / 2
+twos-bit m a =
+    xor-bit (nonzerosOf m (m / 3)) (onesOf m (m / 3)) a
+    ∙ neither (nonzerosOf m (m / 3) / 2 ^ a) (onesOf m (m / 3) / 2 ^ a) (m / 2 ^ a % 3) (omega arith) (nonzeros-bit m a) (ones-bit m a)

@@ -18,3 +18,7 @@ nonzerosOf m q = bitOr (onesOf m q) (bitXor (onesOf m q / 2) m)
 -- Bit a is 1 where the remainder is 0.
 abbrev pub zerosOf : ℕ → ℕ → ℕ
 zerosOf m q = 2 ^ 64 - 1 - nonzerosOf m q
+
+-- Bit a is 1 where the remainder is 2: it is neither 0 nor 1.
+abbrev pub twosOf : ℕ → ℕ → ℕ
+twosOf m q = bitXor (nonzerosOf m q) (onesOf m q)

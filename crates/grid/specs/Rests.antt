@@ -3,15 +3,17 @@
 --
 -- In this order: the half and the third of a rest, which stand in the next column and in the row above; the columns whose rest is
 -- 0, and the last one whose rest is not; the bound on the rest of a row; the rest at a point, and the points where something is
--- left. The remainders by three are in Masks and MaskLaws.
-use mathlib.Core.Path.{_≡_, sym, _∙_}
-use Prim.Native.Nat.{ℕ, suc, _+_, _*_, _^_, _/_, _≤_, _<_}
-use native.Mathlib.Nat.{div-div-eq-div-mul, div-eq-of-lt, div-eq-of-lt-le, le-div-iff-mul-le, lt-of-lt-of-le, lt-of-not-le, mul-comm, mul-le-mul, one-le-pow, pow-le-pow-right, pow-suc, pow-succ'}
+-- left; the rests of the rows as a list. The remainders by three are in Masks and MaskLaws.
+use mathlib.Core.Path.{_≡_, refl, sym, ap, _∙_}
+use Prim.Native.Nat.{ℕ, zero, suc, _+_, _-_, _*_, _^_, _/_, _≤_, _<_}
+use native.Mathlib.Nat.{div-div-eq-div-mul, div-eq-of-lt, div-eq-of-lt-le, div-one, le-div-iff-mul-le, lt-of-lt-of-le, mul-comm, one-le-pow, pow-suc, pow-succ'}
 use native.Mathlib.Omega.{arith}
 use native.Mathlib.Numerals.{add-one}
-use lib.Pow.{shr-shr, pow-mono, pow-pos}
+use lib.ListN.{length, getD}
+use lib.Pow.{shr-shr, pow-mono, pow-pos, pow-add}
+use borrow.Author.Tests.{eq-eqb, ne-eqb}
 use Rattle.chains.specs.Chains.{value}
-use Rattle.grid.specs.Grid.{restAt}
+use Rattle.grid.specs.Grid.{restAt, restsOf, liveRows}
 use Rattle.chains.specs.Bounds.{part-bounds}
 
 pub half-of-rest : (m a : ℕ) → m / 2 ^ a / 2 ≡ m / 2 ^ suc a
@@ -31,11 +33,6 @@ rest-dead m live i h k = div-eq-of-lt (lt-of-lt-of-le h (pow-mono k))
 
 pub rest-at-top : (m top : ℕ) → 2 ^ top ≤ m → m < 2 ^ suc top → m / 2 ^ top ≡ 1
 rest-at-top m top h k = div-eq-of-lt-le (2 ^ top) (omega arith) (omega arith)
-
--- A part of row b is below 2^64 only for a rest m below 2^64 / 3^b. So the last row has a rest of at most 1.
-pub below-last-row : (m b : ℕ) → m * 3 ^ b < 2 ^ 64 → 2 ≤ m → b < 40
-below-last-row m b h k =
-    lt-of-not-le (λ (g : 40 ≤ b). omega (arith, mul-le-mul k (pow-le-pow-right {n = 3} (omega arith) g)))
 
 -- ---- the rest at a point
 
@@ -59,3 +56,50 @@ point-value n a b h =
 pub point-bounds : (n a b : ℕ) → n < 2 ^ 64 → 1 ≤ restAt n a b → (a + b < 64) × (b < 41)
 unfolding value
 point-bounds n a b f h = part-bounds (record { a = a; b = b }) (omega (arith, point-value n a b h))
+
+-- ---- the rests of the rows
+
+pub length-rests : (m k : ℕ) → length (restsOf m k) ≡ k
+unfolding restsOf
+length-rests m zero = refl
+length-rests m (suc k) = ap suc (length-rests (m / 3) k)
+
+pub rests-at : (m k i : ℕ) → i < k → getD (restsOf m k) i 0 ≡ m / 3 ^ i
+unfolding restsOf
+rests-at m zero i h = absurd (omega arith)
+rests-at m (suc k) zero h = sym (div-one m)
+rests-at m (suc k) (suc i) h = rests-at (m / 3) k i (omega arith) ∙ third-of-row m i
+
+-- One row more, in which something is left, and the end, where nothing is.
+pub live-more : (m k : ℕ) → 0 < m → liveRows m (suc k) ≡ suc (liveRows (m / 3) k)
+unfolding liveRows
+live-more m k h = rw (ne-eqb m 0 (λ e. omega arith))
+
+pub live-none : (m k : ℕ) → m ≡ 0 → liveRows m k ≡ 0
+unfolding liveRows
+live-none m zero e = refl
+live-none m (suc k) e = rw (eq-eqb m 0 e)
+
+-- Behind the live rows nothing is left, and they are few.
+pub live-dead : (m k : ℕ) → m < 3 ^ k → m / 3 ^ liveRows m k ≡ 0
+unfolding liveRows
+live-dead m zero h = omega arith
+live-dead zero (suc k) h = rw (live-none 0 (suc k) refl)
+live-dead (suc m) (suc k) h =
+    rw (live-more (suc m) k (omega arith), ← third-of-row)
+    (live-dead (suc m / 3) k (omega (arith, pow-suc 3 k)))
+
+pub live-few : (m k j : ℕ) → m < 3 ^ j → liveRows m k ≤ j
+unfolding liveRows
+live-few m zero j h = omega arith
+live-few zero (suc k) j h = omega (arith, live-none 0 (suc k) refl)
+live-few (suc m) (suc k) zero h = absurd (omega arith)
+live-few (suc m) (suc k) (suc j) h =
+    rw (live-more (suc m) k (omega arith)) (omega (arith, live-few (suc m / 3) k j (omega (arith, pow-suc 3 j))))
+
+-- Where nothing is left in a row, nothing is left in those above it.
+pub row-dead : (n k j : ℕ) → n / 3 ^ k ≡ 0 → k ≤ j → n / 3 ^ j ≡ 0
+row-dead n k j e h =
+    let d : j ≡ k + (j - k) = omega arith in
+    rw (d, pow-add 3 k (j - k), ← div-div-eq-div-mul n (3 ^ k) (3 ^ (j - k)), e)
+    (div-eq-of-lt (one-le-pow (j - k) 3 (omega arith)))

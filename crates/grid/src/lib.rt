@@ -1,26 +1,28 @@
-// A table filled row by row: the rests of its rows, and the remainders by three in a row. Its theory stands in specs/.
+// A table filled row by row in the scratch: the rests of its rows, and the remainders by three in a row. Its theory stands in
+// specs/.
 ghost use mathlib.Core.Path.{_≡_};
-ghost use Prim.Native.Nat.{ℕ, _^_, _/_, _<_};
-ghost use lib.ListN.{getD};
-ghost use Rattle.grid.specs.Masks.{onesOf, zerosOf};
+ghost use lib.ListN.{length};
+ghost use Rattle.grid.specs.Masks.{onesOf, zerosOf, twosOf};
+ghost use Rattle.grid.specs.Grid.{restsOf, liveRows};
 
-// The rests of the first columns of a row and of those above it, where m is that of the row itself. There are at most 41 rows, and
-// behind the last nothing is left.
-//
-// A table is filled from its last row down. With the rests at hand that is a loop, which is faster than a call for each row, 41
-// calls deep.
-pub fn row_rests(m: u64) -> [u64; 42]
-    ensures { λ r. ⌜ ((i : ℕ) → i < 42 → getD r i 0 ≡ m / 3 ^ i) ⌝ }
+// Puts the rests of the first columns of the rows from 0 on into a lent part, where m is that of row 0. Tells how many of these rows
+// have something left. A table is filled from the last of them down.
+pub fn put_rests(m: u64, part: &mut [u64]) -> usize
+    ensures { λ r. ⌜ r ≡ liveRows m (length (now (part .entry))) ⌝ }
+    ensures { λ _. ⌜ now (part .exit) ≡ restsOf m (length (now (part .entry))) ⌝ }
 {
-    let mut rests = [0u64; 42];
+    lent::clear_u64(part);
     let mut rest = m;
     let mut i = 0;
-    while i < 42 {
-        rests[i] = rest;
+    while 0 < rest {
+        if i == part.len() {
+            return i;
+        }
+        part[i] = rest;
         rest = rest / 3;
         i += 1;
     }
-    rests
+    i
 }
 
 // The mask of a row whose bit a is 1 where the rest of column a leaves the remainder 1 by three. m and q are the rests of the first
@@ -39,4 +41,12 @@ pub fn zeros(m: u64, q: u64) -> u64
 {
     let ones = m ^ q;
     !(ones | ((ones >> 1) ^ m))
+}
+
+// The same for the remainder 2: where it is neither 0 nor 1.
+pub fn twos(m: u64, q: u64) -> u64
+    ensures { λ r. ⌜ r ≡ twosOf m q ⌝ }
+{
+    let ones = m ^ q;
+    (ones | ((ones >> 1) ^ m)) ^ ones
 }

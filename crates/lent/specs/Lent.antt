@@ -27,9 +27,9 @@ pub record OnlyFirst (size : ℕ) (entry exit : List ℕ) : Type 0 where
 
 -- ---- what must be lent
 
--- How many numbers a scratch must have: 41 rows of 64 columns of 2 numbers. The code says it once too, as `SCRATCH`.
+-- How many numbers a scratch must have: eight blocks of 64 (document 02, T-03). The code says it once too, as `SCRATCH`.
 abbrev pub scratchSize : ℕ
-scratchSize = 5248
+scratchSize = 512
 
 -- The scratch is too small.
 unfoldable pub littleScratch : List ℕ → Bool

@@ -1,23 +1,29 @@
 -- The laws of lent memory; the definitions are in Lent.
 --
--- In this order: the length is kept; a part of that size that was zeroed; what is given, put over the zeros; whether too little is
--- lent, and the scratch at exit, in each case.
+-- In this order: the length is kept; a part of that size that was zeroed; what is given, put over the zeros; memory of which only the
+-- first may have changed; whether too little is lent, and the scratch at exit, in each case.
 use mathlib.Core.Path.{_≡_, refl, sym, ap, _∙_}
 use mathlib.Core.Bool.{Bool, true, false, _||_, or-true, true≢false}
 use mathlib.Core.List.{List, [], _++_, append-assoc}
-use Prim.Native.Nat.{ℕ, _+_, _-_, _≤_, _<_}
+use Prim.Native.Nat.{ℕ, zero, suc, _+_, _-_, _≤_, _<_}
 use native.Mathlib.Omega.{arith}
-use lib.ListN.{length, take, drop, replicate, length-append, length-drop, length-replicate, replicate-append-replicate}
+use lib.ListN.{length, getD, take, drop, replicate, length-append, length-drop, length-replicate, replicate-append-replicate}
 use lib.Seq.{length-take-le, take-append-seam, drop-at}
 use borrow.Author.Tests.{le-ltb, lt-ltb}
 use borrow.Rule.Slice.PartMut.{midOf, putMid}
-use Rattle.lent.specs.Lent.{zeros, filled, scratchSize, littleScratch, tooLittle, Enough, scratchLeft}
+use Rattle.lent.specs.Lent.{zeros, filled, OnlyFirst, scratchSize, littleScratch, tooLittle, Enough, scratchLeft}
 
 -- ---- the rule
 
 pub length-zeros : (k : ℕ) → length (zeros k) ≡ k
 unfolding zeros
 length-zeros k = length-replicate k 0
+
+pub zeros-at : (k i : ℕ) → getD (zeros k) i 0 ≡ 0
+unfolding zeros
+zeros-at zero i = refl
+zeros-at (suc k) zero = refl
+zeros-at (suc k) (suc i) = zeros-at k i
 
 -- Memory keeps its length.
 pub length-filled : (size : ℕ) (xs entry : List ℕ) → length xs ≤ size → size ≤ length entry
@@ -59,6 +65,19 @@ filled-again size xs entry h =
     ap (drop size) (sym (append-assoc xs z (drop size entry))) ∙ drop-at (xs ++ z) (drop size entry) size n
     in
     ap (λ (l : List ℕ). xs ++ (z ++ l)) later
+
+-- ---- memory of which only the first may have changed
+
+pub used-none : {size : ℕ} {l : List ℕ} → OnlyFirst size l l
+used-none = record { same = refl; later = refl }
+
+pub used-on : {size : ℕ} {entry between l : List ℕ} → OnlyFirst size entry between → OnlyFirst size between l → OnlyFirst size entry l
+used-on f g = record { same = g .same ∙ f .same; later = g .later ∙ f .later }
+
+-- Zeroed, it is what zeroing it at entry would leave.
+pub used-zeroed : {size : ℕ} {entry l : List ℕ} → OnlyFirst size entry l → filled size [] l ≡ filled size [] entry
+unfolding filled
+used-zeroed u = rw (u .later)
 
 -- ---- whether too little is lent
 
@@ -107,3 +126,8 @@ served-zeroed s h = left-zeroed (littleScratch s) s (scratch-enough s h)
 
 pub refused-untouched : (s : List ℕ) → length s < scratchSize → scratchLeft (littleScratch s) s ≡ s
 refused-untouched s h = left-untouched (littleScratch s) s (scratch-little s h)
+
+-- A scratch of which only the first numbers were used, zeroed in the end.
+pub used-left : {entry l : List ℕ} → scratchSize ≤ length entry → OnlyFirst scratchSize entry l
+    → scratchLeft (littleScratch l) l ≡ filled scratchSize [] entry
+used-left {entry} {l} h u = served-zeroed l (omega (arith, u .same)) ∙ used-zeroed u

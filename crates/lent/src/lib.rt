@@ -1,10 +1,10 @@
 // Zeroing lent memory, at each width that the services are lent: the scratch, the places for part numbers, letters and digits.
 ghost use mathlib.Core.Path.{_≡_};
 ghost use lib.ListN.{length};
-ghost use Rattle.lent.specs.Lent.{zeros};
+ghost use Rattle.lent.specs.Lent.{zeros, littleScratch, scratchLeft};
 
 // How many numbers the scratch of a service must have (`scratchSize` in specs/Lent.antt).
-pub const SCRATCH: usize = 5248;
+pub const SCRATCH: usize = 512;
 
 // Zeroes all of a lent part.
 pub fn clear_u64(part: &mut [u64])
@@ -17,7 +17,17 @@ pub fn clear_u64(part: &mut [u64])
     }
 }
 
-// The same of numbers of 16 bits.
+// Zeroes the first `SCRATCH` numbers of a lent scratch. Where it has fewer, nothing is touched.
+pub fn clear_scratch(scratch: &mut [u64])
+    ensures { λ _. ⌜ now (scratch .exit) ≡ scratchLeft (littleScratch (now (scratch .entry))) (now (scratch .entry)) ⌝ }
+{
+    if scratch.len() < SCRATCH {
+        return;
+    }
+    clear_u64(&mut scratch[0..SCRATCH]);
+}
+
+// Zeroes all of a lent part of numbers of 16 bits.
 pub fn clear_u16(part: &mut [u16])
     ensures { λ _. ⌜ now (part .exit) ≡ zeros (length (now (part .entry))) ⌝ }
 {

@@ -1,11 +1,8 @@
 // Finding a chain or its position in the list of n, on a lent scratch.
-mod tables;
-mod walks;
+mod giving;
 
-use counting::Counted;
-use words::Parted;
-use words::Weighed;
-use words::Written;
+use counting::Listed;
+use words::Packed;
 ghost use mathlib.Core.Path.{_≡_};
 ghost use Rattle.lent.specs.Lent.{littleScratch, tooLittle, scratchLeft};
 ghost use Rattle.ranking.specs.Services.{lent, answerOf, placesLeft, atPosition, ofWord, nextOf};
@@ -33,14 +30,15 @@ pub fn read_record(numbers: &[u16], scratch: &mut [u64]) -> Placed
     if scratch.len() < lent::SCRATCH {
         return Placed::Refused(1);
     }
-    let mut letters = [0u8; 64];
-    match words::write_word(numbers, &mut letters) {
-        Written::Letters(k) => {
-            let length = k as usize;
-            tables::place_word(&letters[0..length], scratch)
-        }
-        Written::Refused(number) => {
-            tables::clear(scratch);
+    match words::pack_word(numbers) {
+        Packed::Word {
+            n,
+            rises,
+            marks: _,
+            letters: _,
+        } => giving::place(n, rises, scratch),
+        Packed::Refused(number) => {
+            lent::clear_scratch(scratch);
             Placed::Refused(number)
         }
     }
@@ -61,12 +59,14 @@ pub fn read_word(letters: &[u8], scratch: &mut [u64], places: &mut [u16]) -> Fou
     if places.len() < 64 {
         return Found::Refused(1);
     }
-    match words::word_parts(letters, places) {
-        Parted::Chain { n, k } => {
-            let position = tables::position_of(n, letters, scratch);
-            Found::Chain { n, position, k }
-        }
-        Parted::Refused(number) => tables::refuse(number, scratch),
+    match words::pack_letters(letters) {
+        Packed::Word {
+            n,
+            rises,
+            marks,
+            letters: _,
+        } => giving::give_word(n, rises, marks, scratch, places),
+        Packed::Refused(number) => giving::refuse(number, scratch),
     }
 }
 
@@ -78,13 +78,21 @@ pub fn chain_at(n: u64, position: u64, scratch: &mut [u64], places: &mut [u16]) 
     ensures scratch { λ _. ⌜ now (scratch .exit)
         ≡ scratchLeft (tooLittle 64 (now (scratch .entry)) (now (places .entry))) (now (scratch .entry)) ⌝ }
 {
+    if scratch.len() < lent::SCRATCH {
+        return Found::Refused(1);
+    }
     if places.len() < 64 {
         return Found::Refused(1);
     }
-    let Counted::Count(count) = counting::fill_counts(n, scratch) else {
-        return Found::Refused(1);
-    };
-    tables::give_at(n, count, position, 6, scratch, places)
+    match counting::word_at(n, position, scratch) {
+        Listed::Word {
+            position,
+            rises,
+            marks,
+        } => giving::give_parts(n, position, rises, marks, places),
+        Listed::Past => Found::Refused(6),
+        Listed::Refused(number) => Found::Refused(number),
+    }
 }
 
 // The chain after a word's in its list; the part numbers in the places. Refuses with 1, 7, 10 in that order, then with 11 where the
@@ -104,11 +112,13 @@ pub fn next_chain(letters: &[u8], scratch: &mut [u64], places: &mut [u16]) -> Fo
     if places.len() < 64 {
         return Found::Refused(1);
     }
-    if !words::is_good(letters) {
-        return tables::refuse(7, scratch);
+    match words::pack_letters(letters) {
+        Packed::Word {
+            n,
+            rises,
+            marks: _,
+            letters: _,
+        } => giving::give_after(n, rises, scratch, places),
+        Packed::Refused(number) => giving::refuse(number, scratch),
     }
-    let Weighed::Number(n) = words::weigh(letters) else {
-        return tables::refuse(10, scratch);
-    };
-    tables::give_after(n, letters, scratch, places)
 }

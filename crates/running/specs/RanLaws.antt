@@ -2,13 +2,13 @@
 -- In order: the tests of m and x; the answer by the tests; the residue (`ran-residue`): it is n × x modulo m, and told exactly if m
 -- and x are what they must be and the record names a chain of n; which refusal comes when (`run-refusals`). The answer is defined
 -- in Ran.
-use mathlib.Core.Path.{_≡_, refl, sym, subst, _∙_}
+use mathlib.Core.Path.{_≡_, refl, sym, _∙_}
 use mathlib.Core.Logic.{_↔_, _⊎_, inl, inr, ⊎-elim, Iff·and, Iff·trans}
-use mathlib.Core.Bool.{Bool, true, false, cond}
+use mathlib.Core.Bool.{false, cond}
 use mathlib.Core.List.{List}
 use Prim.Native.Nat.{ℕ, _*_, _%_, _^_, _≤_, _<_}
 use native.Mathlib.Omega.{arith}
-use lib.Dec.{T, eqb, ltb, leb, leb→le, le→leb}
+use lib.Dec.{eqb, ltb, leb, leb→le, le→leb}
 use borrow.Author.Tests.{ne-eqb, eqb-false, ltb-false, leb-false, le-ltb, lt-leb}
 use Rattle.lent.specs.LentLaws.{neither}
 use Rattle.chains.specs.Chains.{Chained, total}

@@ -31,6 +31,7 @@ pub fn run_chain(numbers: &[u16], m: u64, x: u64) -> Ran
     }
     match words::pack_word(numbers) {
         Packed::Word {
+            n: _,
             rises,
             marks,
             letters,

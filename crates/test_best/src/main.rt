@@ -1,8 +1,10 @@
 // The best chain of 0 to 400 under twelve limits and prices each; of a thousand 64-bit numbers, with no limit and with limits one
-// below, at and one above what the best chain needs; of numbers at the edges, with what is left in the lent memory; and with too
-// little lent.
+// below, at and one above what the best chain needs; of numbers at the edges, with what is left in the lent memory, for a scratch of
+// 512 numbers, of 513 and of 5,248; and with too little lent.
 //
-// A line: the position, the number of parts, the price and the part numbers, or the number of the refusal.
+// A line: the position, the number of parts, the price and the part numbers, or the number of the refusal. Where the lent memory is
+// looked at, it holds only ones at entry, and the line goes on with where the zeros that the scratch begins with end, where the ones
+// that follow them end, and the same of the places behind the parts.
 use best::Chosen;
 use best::Limits;
 use best::Prices;
@@ -268,16 +270,19 @@ fn tell_random(table: &[u64], scratch: &mut [u64], places: &mut [u16]) {
 
 // ---- numbers at the edges, and what is left in the lent memory
 
-fn hold(scratch: &mut [u64], places: &mut [u16]) {
+fn hold_ones(scratch: &mut [u64]) {
     let mut i = 0;
     while i < scratch.len() {
-        scratch[i] = 9;
+        scratch[i] = u64::MAX;
         i += 1;
     }
-    let mut j = 0;
-    while j < places.len() {
-        places[j] = 9;
-        j += 1;
+}
+
+fn hold_ones_in_places(places: &mut [u16]) {
+    let mut i = 0;
+    while i < places.len() {
+        places[i] = u16::MAX;
+        i += 1;
     }
 }
 
@@ -304,7 +309,7 @@ fn end_of_places(s: &[u16], from: usize, x: u16) -> usize {
     i
 }
 
-// Where the zeros of the scratch end, and what was there before after them; the same of the places, behind the first k.
+// Where the zeros of the scratch end, and the ones after them; the same of the places, behind the first k.
 fn print_left(chosen: Chosen, scratch: &[u64], places: &[u16]) {
     let mut from = 0;
     if let Chosen::Chain {
@@ -319,40 +324,53 @@ fn print_left(chosen: Chosen, scratch: &[u64], places: &[u16]) {
     space();
     print(zeros as u64);
     space();
-    print(end_of_numbers(scratch, zeros, 9) as u64);
+    print(end_of_numbers(scratch, zeros, u64::MAX) as u64);
     space();
     print(zero_places as u64);
     space();
-    print(end_of_places(places, zero_places, 9) as u64);
+    print(end_of_places(places, zero_places, u16::MAX) as u64);
 }
 
 fn tell_left(n: u64, l: Limits, scratch: &mut [u64], places: &mut [u16]) {
-    hold(scratch, places);
+    hold_ones(scratch);
+    hold_ones_in_places(places);
     let chosen = best::best_chain(n, l, prices_of(0), scratch, places);
     print_chosen(chosen, places);
     print_left(chosen, scratch, places);
     end_line();
 }
 
-// Eleven numbers under eight limits each, and the four examples under their own.
+// Eleven numbers under eight limits each.
 fn tell_edges(scratch: &mut [u64], places: &mut [u16]) {
     for i in 0..88 {
         tell_left(number_at(i / 8), limits_at(10 + i % 8), scratch, places);
     }
-    for j in 0..4 {
-        tell_left(number_at(11 + j), limits_at(18 + j), scratch, places);
+}
+
+// The four examples under their own limits.
+fn tell_examples(scratch: &mut [u64], places: &mut [u16]) {
+    for i in 0..4 {
+        tell_left(number_at(11 + i), limits_at(18 + i), scratch, places);
     }
 }
 
 fn main() {
     let table = parts::table::copy();
-    let mut scratch = [0u64; 5250];
+    let mut exact = [0u64; 512];
     let mut places = [0u16; 66];
-    tell_small(&mut scratch, &mut places);
-    tell_random(&table, &mut scratch, &mut places);
-    tell_edges(&mut scratch, &mut places);
-    let mut short = [0u64; 5247];
-    tell_left(19, limits_at(0), &mut short, &mut places);
+    tell_small(&mut exact, &mut places);
+    tell_random(&table, &mut exact, &mut places);
+    tell_edges(&mut exact, &mut places);
+    tell_examples(&mut exact, &mut places);
+    let mut longer = [0u64; 513];
+    tell_edges(&mut longer, &mut places);
+    tell_examples(&mut longer, &mut places);
+    let mut large = [0u64; 5248];
+    tell_edges(&mut large, &mut places);
+    tell_examples(&mut large, &mut places);
+    let mut short = [0u64; 511];
+    tell_examples(&mut short, &mut places);
     let mut few = [0u16; 63];
-    tell_left(19, limits_at(0), &mut scratch, &mut few);
+    tell_examples(&mut exact, &mut few);
+    tell_examples(&mut large, &mut few);
 }

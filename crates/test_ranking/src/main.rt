@@ -4,8 +4,8 @@
 // A line has n, the position, how many parts, a digest of the 64 places, how many letters and a digest of the 64 letters; then =
 // where reading the word gives the same, and = where reading the record tells the same n and position; then how many parts the next
 // chain has and a digest of its places, where it is the chain of n at the next position, or the refusal. A refused position has its
-// number alone. Whatever else comes is printed in full. The scratch is full of ones at each call, of 5,248 numbers or of 6,000; a
-// line ends in ! where it, or the places past the 64th, are not left as they should be.
+// number alone. Whatever else comes is printed in full. Of 5,248 numbers that are full of ones at each call, 512, 513 or all are
+// lent as the scratch; ! stands behind the answer where they, or the places past the 64th, are not left as they should be.
 use counting::Counted;
 use libc::STDOUT_FILENO;
 use parts::Number;
@@ -26,13 +26,13 @@ fn text(t: &[u8]) {
 
 // ---- memory
 
-// The size of a scratch, as document 01 has it.
-const SCRATCH: usize = 5248;
+// The least size of a scratch, as document 02 has it.
+const SCRATCH: usize = 512;
 
-fn full_scratch() -> [u64; 6000]
-    ensures { λ r. ⌜ 6000 ≡ length r ⌝ }
+fn full_scratch() -> [u64; 5248]
+    ensures { λ r. ⌜ 5248 ≡ length r ⌝ }
 {
-    [u64::MAX; 6000]
+    [u64::MAX; 5248]
 }
 
 fn full_places() -> [u16; 70]
@@ -41,17 +41,21 @@ fn full_places() -> [u16; 70]
     [u16::MAX; 70]
 }
 
-// How much of the scratch is lent.
+// How many numbers are lent as the scratch for n: the least for most n, one more, or all.
 fn lent(n: u64) -> usize
-    ensures { λ r. ⌜ r ≤ 6000 ⌝ }
+    ensures { λ r. ⌜ r ≤ 5248 ⌝ }
 {
-    if n % 2 == 0 { SCRATCH } else { 6000 }
+    match n % 8 {
+        1 => 513,
+        3 => 5248,
+        _ => SCRATCH,
+    }
 }
 
 // The first `count` are zero, and the rest is as it was.
-fn is_left(scratch: &[u64], count: usize) -> bool {
+fn is_left(scratch: &[u64; 5248], count: usize) -> bool {
     let mut i = 0;
-    while i < scratch.len() {
+    while i < 5248 {
         let expected = if i < count { 0 } else { u64::MAX };
         if scratch[i] != expected {
             return false;
@@ -62,9 +66,9 @@ fn is_left(scratch: &[u64], count: usize) -> bool {
 }
 
 // The places from `start` on are as they were.
-fn is_kept(places: &[u16], start: usize) -> bool {
+fn is_kept(places: &[u16; 70], start: usize) -> bool {
     let mut i = start;
-    while i < places.len() {
+    while i < 70 {
         if places[i] != u16::MAX {
             return false;
         }
@@ -121,7 +125,7 @@ fn first(k: u64) -> usize
     if k < 64 { k as usize } else { 64 }
 }
 
-// ---- one call of each service
+// ---- one call of each service, which is lent a scratch of `size` numbers
 
 // What a service gave and left in the places, and whether the memory is as it should be.
 struct Given {
@@ -130,10 +134,13 @@ struct Given {
     right: bool,
 }
 
-fn given_at(n: u64, position: u64, scratch: &mut [u64]) -> Given {
+fn given_at(n: u64, position: u64, size: usize) -> Given
+    requires { ⌜ size ≤ 5248 ⌝ }
+{
+    let mut scratch = full_scratch();
     let mut places = full_places();
-    let found = ranking::chain_at(n, position, scratch, &mut places);
-    let right = is_left(scratch, SCRATCH) & is_kept(&places, 64);
+    let found = ranking::chain_at(n, position, &mut scratch[0..size], &mut places);
+    let right = is_left(&scratch, SCRATCH) & is_kept(&places, 64);
     Given {
         found,
         places,
@@ -141,10 +148,13 @@ fn given_at(n: u64, position: u64, scratch: &mut [u64]) -> Given {
     }
 }
 
-fn given_word(letters: &[u8], scratch: &mut [u64]) -> Given {
+fn given_word(letters: &[u8], size: usize) -> Given
+    requires { ⌜ size ≤ 5248 ⌝ }
+{
+    let mut scratch = full_scratch();
     let mut places = full_places();
-    let found = ranking::read_word(letters, scratch, &mut places);
-    let right = is_left(scratch, SCRATCH) & is_kept(&places, 64);
+    let found = ranking::read_word(letters, &mut scratch[0..size], &mut places);
+    let right = is_left(&scratch, SCRATCH) & is_kept(&places, 64);
     Given {
         found,
         places,
@@ -152,10 +162,13 @@ fn given_word(letters: &[u8], scratch: &mut [u64]) -> Given {
     }
 }
 
-fn given_next(letters: &[u8], scratch: &mut [u64]) -> Given {
+fn given_next(letters: &[u8], size: usize) -> Given
+    requires { ⌜ size ≤ 5248 ⌝ }
+{
+    let mut scratch = full_scratch();
     let mut places = full_places();
-    let found = ranking::next_chain(letters, scratch, &mut places);
-    let right = is_left(scratch, SCRATCH) & is_kept(&places, 64);
+    let found = ranking::next_chain(letters, &mut scratch[0..size], &mut places);
+    let right = is_left(&scratch, SCRATCH) & is_kept(&places, 64);
     Given {
         found,
         places,
@@ -169,9 +182,12 @@ struct Told {
     right: bool,
 }
 
-fn told_record(numbers: &[u16], scratch: &mut [u64]) -> Told {
-    let placed = ranking::read_record(numbers, scratch);
-    let right = is_left(scratch, SCRATCH);
+fn told_record(numbers: &[u16], size: usize) -> Told
+    requires { ⌜ size ≤ 5248 ⌝ }
+{
+    let mut scratch = full_scratch();
+    let placed = ranking::read_record(numbers, &mut scratch[0..size]);
+    let right = is_left(&scratch, SCRATCH);
     Told { placed, right }
 }
 
@@ -208,9 +224,7 @@ fn print_found(found: Found, places: &[u16]) {
 
 // The word read: = where it gives k parts of n at the position, with the same places.
 fn tell_word(letters: &[u8], n: u64, position: u64, k: u64, digest: u64) {
-    let mut scratch = full_scratch();
-    let size = lent(n);
-    let given = given_word(letters, &mut scratch[0..size]);
+    let given = given_word(letters, lent(n));
     let found = given.found;
     let places = given.places;
     if is_chain(found, n, position, k) & (digest_of(&places) == digest) {
@@ -233,10 +247,10 @@ fn is_chain(found: Found, n: u64, position: u64, k: u64) -> bool {
 }
 
 // The next chain: parts and digest where it is the one of n at the next position.
-fn tell_next(letters: &[u8], n: u64, next: u64) {
-    let mut scratch = full_scratch();
-    let size = lent(n);
-    let given = given_next(letters, &mut scratch[0..size]);
+fn tell_next(letters: &[u8], n: u64, next: u64, size: usize)
+    requires { ⌜ size ≤ 5248 ⌝ }
+{
+    let given = given_next(letters, size);
     let found = given.found;
     let places = given.places;
     match found {
@@ -253,10 +267,10 @@ fn tell_next(letters: &[u8], n: u64, next: u64) {
 }
 
 // The record read: = where it tells n and the position.
-fn tell_record(numbers: &[u16], n: u64, position: u64) {
-    let mut scratch = full_scratch();
-    let size = lent(n);
-    let told = told_record(numbers, &mut scratch[0..size]);
+fn tell_record(numbers: &[u16], n: u64, position: u64, size: usize)
+    requires { ⌜ size ≤ 5248 ⌝ }
+{
+    let told = told_record(numbers, size);
     let placed = told.placed;
     match placed {
         Placed::At { n: a, position: b } => {
@@ -292,9 +306,10 @@ fn tell_chain(n: u64, position: u64, k: u64, places: &[u16]) {
             print(digest_letters(&letters));
             text(b" ");
             let end = first(length);
+            let next = std::num::wrapping_add_u64(position, 1);
             tell_word(&letters[0..end], n, position, k, digest_of(places));
-            tell_record(numbers, n, position);
-            tell_next(&letters[0..end], n, std::num::wrapping_add_u64(position, 1));
+            tell_record(numbers, n, position, lent(n));
+            tell_next(&letters[0..end], n, next, lent(n));
         }
         Written::Refused(number) => print(number as u64),
     }
@@ -302,9 +317,7 @@ fn tell_chain(n: u64, position: u64, k: u64, places: &[u16]) {
 
 // A line for a position of n. Tells whether there is a chain.
 fn tell(n: u64, position: u64) -> bool {
-    let mut scratch = full_scratch();
-    let size = lent(n);
-    let given = given_at(n, position, &mut scratch[0..size]);
+    let given = given_at(n, position, lent(n));
     let found = given.found;
     let places = given.places;
     let mut some = false;
@@ -342,7 +355,7 @@ fn tell_all(n: u64) {
 // The first position of n, the last, one between them, and one past the last.
 fn tell_some(n: u64) {
     let mut scratch = full_scratch();
-    let count = match counting::table_count(n, &mut scratch) {
+    let count = match counting::table_count(n, &mut scratch[0..SCRATCH]) {
         Counted::Count(w) => w,
         Counted::Refused(_) => 0,
     };
@@ -381,21 +394,24 @@ fn tell_many() {
     }
 }
 
-// ---- refusals
+// ---- refusals, with a scratch of `size` numbers
 
-fn tell_refused_word(letters: &[u8]) {
-    let mut scratch = full_scratch();
-    let given = given_word(letters, &mut scratch);
+fn tell_refused_word(letters: &[u8], size: usize)
+    requires { ⌜ size ≤ 5248 ⌝ }
+{
+    let given = given_word(letters, size);
     let found = given.found;
     let places = given.places;
     print_found(found, &places);
     mark(given.right);
-    tell_next(letters, 0, 0);
+    tell_next(letters, 0, 0, size);
     text(b"\n");
 }
 
-fn tell_refused_record(numbers: &[u16]) {
-    tell_record(numbers, 0, 0);
+fn tell_refused_record(numbers: &[u16], size: usize)
+    requires { ⌜ size ≤ 5248 ⌝ }
+{
+    tell_record(numbers, 0, 0, size);
     text(b"\n");
 }
 
@@ -407,54 +423,71 @@ fn number(a: u64, b: u64) -> u16 {
     }
 }
 
-fn tell_refusals() {
-    tell_refused_word(b"");
-    tell_refused_word(b"\x00");
-    tell_refused_word(b"\x02");
-    tell_refused_word(b"\x04");
-    tell_refused_word(b"\x00\x02\x03");
-    tell_refused_word(b"\x01\x02\x03");
-    tell_refused_word(b"\x01\x03\x02");
-    tell_long(0, 63);
-    tell_long(0, 64);
-    tell_long(2, 40);
-    tell_long(2, 41);
-    tell_long(1, 63);
-    tell_long(1, 64);
-    tell_refused_record(&[]);
-    tell_refused_record(&[1343]);
-    tell_refused_record(&[1344]);
-    tell_refused_record(&[0, 1344]);
-    tell_refused_record(&[0, 0]);
-    tell_refused_record(&[0, 1]);
-    tell_refused_record(&[number(62, 1), number(61, 1)]);
-    tell_refused_record(&[number(63, 0), number(62, 0)]);
-    tell_many_parts();
+fn tell_refused_words(size: usize)
+    requires { ⌜ size ≤ 5248 ⌝ }
+{
+    tell_refused_word(b"", size);
+    tell_refused_word(b"\x00", size);
+    tell_refused_word(b"\x02", size);
+    tell_refused_word(b"\x04", size);
+    tell_refused_word(b"\x00\x02\x03", size);
+    tell_refused_word(b"\x01\x02\x03", size);
+    tell_refused_word(b"\x01\x03\x02", size);
+    tell_long(0, 63, size);
+    tell_long(0, 64, size);
+    tell_long(2, 40, size);
+    tell_long(2, 41, size);
+    tell_long(1, 63, size);
+    tell_long(1, 64, size);
+}
+
+fn tell_refused_records(size: usize)
+    requires { ⌜ size ≤ 5248 ⌝ }
+{
+    tell_refused_record(&[], size);
+    tell_refused_record(&[1343], size);
+    tell_refused_record(&[1344], size);
+    tell_refused_record(&[0, 1344], size);
+    tell_refused_record(&[0, 0], size);
+    tell_refused_record(&[0, 1], size);
+    tell_refused_record(&[number(62, 1), number(61, 1)], size);
+    tell_refused_record(&[number(63, 0), number(62, 0)], size);
+    tell_many_parts(size);
 }
 
 // A word of `count` letters of one kind, and 3.
-fn tell_long(letter: u8, count: usize)
+fn tell_long(letter: u8, count: usize, size: usize)
     requires { ⌜ count < 70 ⌝ }
+    requires { ⌜ size ≤ 5248 ⌝ }
 {
     let mut letters = [letter; 70];
     letters[count] = 3;
     let end = count + 1;
-    tell_refused_word(&letters[0..end]);
+    tell_refused_word(&letters[0..end], size);
 }
 
 // A record of the powers of 2 from 2^63 down, and one with 1 once more.
-fn tell_many_parts() {
+fn tell_many_parts(size: usize)
+    requires { ⌜ size ≤ 5248 ⌝ }
+{
     let mut numbers = [0u16; 65];
     let mut a = 0;
     while a < 64 {
         numbers[a] = number((63 - a) as u64, 0);
         a += 1;
     }
-    tell_refused_record(&numbers[0..64]);
-    tell_refused_record(&numbers);
+    tell_refused_record(&numbers[0..64], size);
+    tell_refused_record(&numbers, size);
 }
 
-// Too little lent: nothing is touched.
+fn tell_refusals(size: usize)
+    requires { ⌜ size ≤ 5248 ⌝ }
+{
+    tell_refused_words(size);
+    tell_refused_records(size);
+}
+
+// What three services answer to too little lent.
 fn tell_little(scratch: &mut [u64], places: &mut [u16]) {
     let at = ranking::chain_at(19, 3, scratch, places);
     print_found(at, places);
@@ -462,31 +495,29 @@ fn tell_little(scratch: &mut [u64], places: &mut [u16]) {
     print_found(word, places);
     let next = ranking::next_chain(b"\x01\x01\x00\x00\x03", scratch, places);
     print_found(next, places);
-    mark(is_left(scratch, 0) & is_kept(places, 0));
 }
 
-fn tell_small_scratch() {
+// `size` numbers and `count` places are too little: nothing is touched.
+fn tell_too_little(size: usize, count: usize)
+    requires { ⌜ size ≤ 5248 ⌝ }
+    requires { ⌜ count ≤ 70 ⌝ }
+{
     let mut scratch = full_scratch();
     let mut places = full_places();
-    tell_little(&mut scratch[0..5247], &mut places);
+    tell_little(&mut scratch[0..size], &mut places[0..count]);
+    mark(is_left(&scratch, 0) & is_kept(&places, 0));
     text(b"\n");
 }
 
+// The same of a record, which has no places, and a scratch of 511 numbers.
 fn tell_small_record() {
     let mut scratch = full_scratch();
-    let told = told_record(&[9, 0], &mut scratch[0..5247]);
-    let placed = told.placed;
+    let placed = ranking::read_record(&[9, 0], &mut scratch[0..511]);
     match placed {
         Placed::At { n, position } => print_placed(n, position),
         Placed::Refused(number) => print(number as u64),
     }
-    text(b"\n");
-}
-
-fn tell_few_places() {
-    let mut scratch = full_scratch();
-    let mut places = full_places();
-    tell_little(&mut scratch, &mut places[0..63]);
+    mark(is_left(&scratch, 0));
     text(b"\n");
 }
 
@@ -499,8 +530,11 @@ fn main() {
     tell_some(15973999968531146337);
     tell_powers();
     tell_many();
-    tell_refusals();
-    tell_small_scratch();
+    tell_refusals(512);
+    tell_refusals(513);
+    tell_refusals(5248);
+    tell_too_little(511, 70);
     tell_small_record();
-    tell_few_places();
+    tell_too_little(512, 63);
+    tell_too_little(5248, 63);
 }

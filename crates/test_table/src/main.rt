@@ -1,6 +1,6 @@
 // The table count of 0 to 2,000 and of many 64-bit numbers, with a scratch that holds only ones at entry, and what it leaves in the
 // scratch: one call a line, the count or the number of the refusal, then where the zeros that the scratch begins with end, then
-// where the ones that follow them end. A scratch that is refused holds no zero.
+// where the ones that follow them end. The scratch has 512 numbers, one more, or 5,248. One of 511 is refused and holds no zero.
 
 // The last number that the plain count serves, powers of two and of three with their neighbours, a large count, and the last
 // number.
@@ -88,13 +88,16 @@ fn tell_special(scratch: &mut [u64]) {
 }
 
 fn main() {
-    let mut exact = [0u64; 5248];
+    let mut exact = [0u64; 512];
     tell_small(&mut exact);
     tell_divided(&mut exact);
     tell_special(&mut exact);
-    let mut larger = [0u64; 6000];
-    tell_divided(&mut larger);
-    tell_special(&mut larger);
-    let mut short = [0u64; 5247];
+    let mut longer = [0u64; 513];
+    tell_divided(&mut longer);
+    tell_special(&mut longer);
+    let mut large = [0u64; 5248];
+    tell_divided(&mut large);
+    tell_special(&mut large);
+    let mut short = [0u64; 511];
     tell_special(&mut short);
 }

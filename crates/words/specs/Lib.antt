@@ -1,15 +1,15 @@
 -- What the services on words answer and leave behind. What a reader must believe, in this order: Answers (good words, comparing,
--- weighing), Records (a burned record), Conversions (from a record to its word, from a word to its parts), Packed (a record's word
--- in two numbers). The theorems on them:
+-- weighing), Records (a burned record), Conversions (from a record to its word, from a word to its parts), Packed (a word in two
+-- numbers). The theorems on them:
 --   TestLaws     what an answer says of the tests that chose it
 --   CompareLaws  comparing is the dictionary order, and 7
 --   RecordLaws   a record gets its sum exactly if it names a chain
 --   Refusals     which refusal a word and a record get: 7, 8, 9, 10
 --   WordLaws     chains through records and words
---   PackedLaws   a word is read back from its two numbers
+--   PackedLaws   a word and its chain are read back from its two numbers
+--   UnpackedLaws the parts that any two numbers hold
 -- What the private functions cite:
---   Walks        the walk that writes a word, and the one that packs it
---   Storing      the walk along a word that stores the numbers of its parts; its laws are in StoringLaws
+--   Walks        the walk that writes a word, the one that packs it, and the points of a word in two numbers
 pub mod Answers
 pub mod Records
 pub mod Conversions
@@ -19,7 +19,6 @@ pub mod RecordLaws
 pub mod Refusals
 pub mod WordLaws
 pub mod Walks
-pub mod Storing
-pub mod StoringLaws
 pub mod Packed
+pub mod UnpackedLaws
 pub mod PackedLaws

@@ -1,9 +1,10 @@
--- What the writer of a word's letters keeps on its way, and the packer of its bits too. Only private functions cite these
--- definitions; what the services answer and leave behind is in Conversions and Packed.
+-- What the writer of a word's letters keeps on its way, and the packer of its bits too; and the points of a word in two numbers.
+-- Only private functions cite these definitions; what the services answer and leave behind is in Conversions and Packed.
 use mathlib.Core.Path.{_≡_}
 use mathlib.Core.Bool.{false}
 use mathlib.Core.List.{List, _∷_, _++_}
-use Prim.Native.Nat.{ℕ, _+_, _-_, _*_, _^_, _≤_, _<_}
+use Prim.Native.Nat.{ℕ, _+_, _-_, _*_, _%_, _^_, _≤_, _<_}
+use lib.Count.{ones}
 use lib.ListN.{take, drop}
 use Rattle.chains.specs.Chains.{Part, Chained, total}
 use Rattle.parts.specs.Codes.{codes}
@@ -65,3 +66,9 @@ pub record Joins (q p : Part) (part rises marks : ℕ) : Type 0 where
   pub few : steps q p < 64
   pub rises-fit : risesFrom q p rises < 2 ^ 64
   pub marks-fit : marksFrom q p part marks < 2 ^ 64
+
+-- ---- from two numbers to parts
+
+-- The point of the letter at place i: b has risen once for each one among the lowest i bits of `rises`, and a for each zero.
+unfoldable pub pointAt : ℕ → ℕ → Part
+pointAt rises i = record { a = i - ones (rises % 2 ^ i); b = ones (rises % 2 ^ i) }

@@ -68,7 +68,7 @@ module _ (entry : List ℕ) (room : 64 ≤ length entry) where
       (told, ap (λ x. lettersLeft l entry x) told)
 
   -- A good word below 2^64 is taken apart into the numbers of its chain.
-  word-parted : (w : Word) → T (reads true w) → total (chainOf w) < 2 ^ 64
+  pub word-parted : (w : Word) → T (reads true w) → total (chainOf w) < 2 ^ 64
       → (partedOf w (length entry) ≡ parted.Chain (total (chainOf w)) (length (chainOf w)))
       × (numbersLeft w entry (partedOf w (length entry)) ≡ filled 64 (map partNumber (chainOf w)) entry)
   unfolding partedOf numbersLeft

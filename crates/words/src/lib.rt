@@ -16,7 +16,7 @@ ghost use Rattle.chains.specs.Words.{reads};
 ghost use Rattle.words.specs.Answers.{comparedOf, weighedOf};
 ghost use Rattle.words.specs.Records.{judgedOf};
 ghost use Rattle.words.specs.Conversions.{writtenOf, lettersLeft, partedOf, numbersLeft};
-ghost use Rattle.words.specs.Packed.{packedOf};
+ghost use Rattle.words.specs.Packed.{packedOf, packedLetters, packedChain, partsLeft};
 
 // How a word stands to another, or document 01's number of a refusal.
 pub enum Compared {
@@ -44,10 +44,11 @@ pub enum Written {
     Refused(u8),
 }
 
-// A record's word in two numbers, a bit a letter, the lowest for the first: whether the letter is 2 or 3, where b rises, and
-// whether it is 1 or 3, a part; and how many letters there are. Or document 01's number of a refusal.
+// A word in two numbers, a bit a letter, the lowest for the first: whether the letter is 2 or 3, where b rises, and whether it is 1
+// or 3, a part. With them the number n that the parts sum to, and how many letters there are. Or document 01's number of a refusal.
 pub enum Packed {
     Word {
+        n: u64,
         rises: u64,
         marks: u64,
         letters: u64,
@@ -128,9 +129,36 @@ pub fn pack_word(numbers: &[u16]) -> Packed
 {
     let table = parts::codes::copy();
     match records::judge(&table, numbers) {
-        Judged::Sum(_) => packing::pack(&table, numbers),
+        Judged::Sum(n) => packing::pack(&table, numbers, n),
         Judged::Refused(number) => Packed::Refused(number),
     }
+}
+
+// A word in two numbers, or refusal 7 or 10. Nothing is lent for it.
+pub fn pack_letters(letters: &[u8]) -> Packed
+    ensures { λ r. ⌜ r ≡ packedLetters (now (letters .entry)) ⌝ }
+{
+    if !is_good(letters) {
+        return Packed::Refused(7);
+    }
+    let Weighed::Number(n) = weigh(letters) else {
+        return Packed::Refused(10);
+    };
+    packing::pack_all(letters, n)
+}
+
+// The parts of the word that two numbers hold, by their numbers, largest part first. The first 64 places hold the numbers and then
+// zeros; where fewer are lent, nothing is touched. Tells how many parts there are.
+pub fn put_parts(rises: u64, marks: u64, places: &mut [u16]) -> u64
+    ensures answer { λ r. ⌜ r ≡ length (packedChain rises marks) ⌝ }
+    ensures places { λ _. ⌜ now (places .exit) ≡ partsLeft rises marks (now (places .entry)) ⌝ }
+{
+    let k = u64::count_ones(marks) as u64;
+    if places.len() < 64 {
+        return k;
+    }
+    to_parts::fill_places(rises, marks, places);
+    k
 }
 
 // The parts of a word by their numbers, largest part first: the number that the parts sum to and how many they are, or refusal 1, 7
@@ -144,13 +172,16 @@ pub fn word_parts(letters: &[u8], places: &mut [u16]) -> Parted
     if places.len() < 64 {
         return Parted::Refused(1);
     }
-    if !is_good(letters) {
-        return Parted::Refused(7);
+    match pack_letters(letters) {
+        Packed::Word {
+            n,
+            rises,
+            marks,
+            letters: _,
+        } => {
+            let k = put_parts(rises, marks, places);
+            Parted::Chain { n, k }
+        }
+        Packed::Refused(number) => Parted::Refused(number),
     }
-    let Weighed::Number(n) = weigh(letters) else {
-        return Parted::Refused(10);
-    };
-    let k = to_parts::count_parts(letters);
-    to_parts::fill_places(letters, places, k);
-    Parted::Chain { n, k: k as u64 }
 }

@@ -1,45 +1,24 @@
--- `table_count` meets its contract: the answer is that of `fill_counts`, and it tells whether there is a table to be zeroed.
+-- `table_count` meets its contract: the rows are filled where there is room for them, the count is read in the first cell, and the
+-- scratch is zeroed.
 use mathlib.Core.Path.{sym, ap, _∙_}
 use borrow.Author.Needs.{needs}
-use Rattle.lent.specs.LentLaws.{refused-untouched}
-use Rattle.counting.specs.TableLaws.{counted-served, counted-refused, told-count, told-refused, table-refused, table-room, table-cleared}
+use Rattle.lent.specs.LentLaws.{used-left, served-zeroed, refused-untouched}
 use Rattle.counting.specs.declared.Counted.the-variants.{Count}
+use Rattle.counting.specs.TableLaws.{counted-served, counted-refused}
 use Rattle.counting.proofs.table_count.Statement.{statement}
 use Rattle.counting.proofs.table_count.Tie as tie
-
-returns : tie.Need-returns
-returns c =
-    let f = c .before .before .before .before in
-    let small = told-refused _ _ (f .fill-counts .ensures .0) (c .enum-told .given .1) in
-    (sym (counted-refused _ _ small), f .fill-counts .ensures .1 ∙ table-refused _ _ small ∙ sym (refused-untouched _ small))
-
-part-clear-u64-end : tie.Need-part-clear-u64-end
-part-clear-u64-end c =
-    let (answer, asked) = c .before .before .before .before .before .fill-counts .ensures in
-    table-room _ _ _ asked (told-count _ _ answer (c .before .count .given .1) .0)
-
-returns-2 : tie.Need-returns-2
-returns-2 c =
-    let zeroed = c .before .before in
-    let told = zeroed .before .before .before in
-    let (answer, asked) = told .before .before .before .before .fill-counts .ensures in
-    let (room, counted) = told-count _ _ answer (told .count .given .1) in (
-      ap Count counted ∙ sym (counted-served _ _ room),
-      table-cleared _ _ _ asked room (zeroed .clear-u64 .last .0) (zeroed .clear-u64 .ensures),
-    )
 
 pub table-count-spec : {M : Type 1} → statement M
 table-count-spec =
     tie.close
     (tie.spec
+    (λ c. (sym (counted-refused _ _ (c .if1 .taken)), sym (refused-untouched _ (c .if1 .taken))))
+    (λ c κs. search needs)
+    (λ c κs. c .before .before .before .fill-down .ensures .rows)
     (λ c κs. search needs)
     (λ c. search needs)
-    (λ c. search needs)
-    (λ c. search needs)
-    returns
-    (λ c. search needs)
-    (λ c. search needs)
-    part-clear-u64-end
-    (λ c κs. search needs)
-    (λ c. search needs)
-    returns-2)
+    (λ c. let z = c .before .before in let k = z .before .before in let f = k .before .before .before .before in
+    let h = f .before .before .if1 .left in (
+      ap Count (k .count-in .ensures) ∙ sym (counted-served _ _ h),
+      z .clear-scratch .ensures ∙ used-left h (f .fill-down .ensures .used) ∙ sym (served-zeroed _ h),
+    )))

@@ -1,55 +1,36 @@
--- `read_record` meets its contract: the word written of a record that gets its sum is read as the record's chain.
+-- `read_record` meets its contract: a record that is packed is the word of its chain, which stands in the list of its sum.
 use mathlib.Core.Path.{sym, _∙_}
-use native.Mathlib.Omega.{arith}
 use borrow.Author.Needs.{needs}
-use Rattle.ranking.proofs.Answers.{scratch-refused, scratch-served, record-written, record-refused}
+use Rattle.lent.specs.LentLaws.{served-zeroed}
+use Rattle.words.specs.PackedLaws.{packed-word}
+use Rattle.ranking.proofs.Answers.{scratch-refused, scratch-served, record-listed, record-placed, record-refused}
 use Rattle.ranking.proofs.read_record.Statement.{statement}
 use Rattle.ranking.proofs.read_record.Tie as tie
 
-returns : tie.Need-returns
-returns c = scratch-refused _ _ (c .if1 .taken)
-
-part-place-word-end : tie.Need-part-place-word-end
-part-place-word-end c =
-    let w = c .before .before .before .before .before in
-    let r = record-written _ _ _ _ (omega arith) (sym (w .write-word .ensures .0) ∙ c .before .before .k .given .1)
-    (w .write-word .ensures .1) in
-    omega (arith, r .room)
-
-place-word-requires : tie.Need-place-word-requires
-place-word-requires c κs =
-    let w = c .before .before .before .before .before .before .before in
-    let r = record-written _ _ _ _ (omega arith) (sym (w .write-word .ensures .0) ∙ c .before .before .before .before .k .given .1)
-    (w .write-word .ensures .1) in
-    record { good = r .good; room = w .before .before .if1 .left }
-
 returns-2 : tie.Need-returns-2
 returns-2 c =
-    let p = c .before .before in
-    let w = p .before .before .before .before .before .before .before .before in
-    let r = record-written _ _ _ _ (omega arith)
-    (sym (w .write-word .ensures .0) ∙ p .before .before .before .before .before .k .given .1) (w .write-word .ensures .1) in
-    scratch-served _ _ _ _ (w .before .before .if1 .left) (p .place-word .ensures .0 ∙ r .same) (p .place-word .ensures .1)
+    let g = c .before .before in
+    let k = g .before .before .before in
+    let w = k .before .before in
+    let p = packed-word _ _ _ _ _ (sym (w .pack-word .ensures) ∙ k .n .given .1) in
+    scratch-served _ _ _ _ (w .before .if1 .left) (g .place .ensures .0 _ (record-listed p) (p .rising) ∙ record-placed p) (g .place .ensures .1)
 
 returns-3 : tie.Need-returns-3
 returns-3 c =
-    let p = c .before .before in
-    let w = p .before .before .before .before .before .before in
-    let e = sym (w .write-word .ensures .0) ∙ p .before .before .before .number .given .1 in
-    scratch-served _ _ _ _ (w .before .before .if1 .left) (record-refused _ _ _ (omega arith) e) (p .clear .ensures)
+    let z = c .before .before in
+    let k = z .before .before .before in
+    let w = k .before .before in
+    let h = w .before .if1 .left in
+    scratch-served _ _ _ _ h (record-refused _ _ (sym (w .pack-word .ensures) ∙ k .number .given .1)) (z .clear-scratch .ensures ∙ served-zeroed _ h)
 
 pub read-record-spec : {M : Type 1} → statement M
 read-record-spec =
     tie.close
     (tie.spec
-    returns
-    (λ c. search needs)
+    (λ c. scratch-refused _ _ (c .if1 .taken))
     (λ c κs. search needs)
     (λ c. search needs)
-    (λ c. search needs)
-    (λ c. search needs)
-    part-place-word-end
-    place-word-requires
+    (λ c κs. c .before .before .before .before .before .if1 .left)
     (λ c. search needs)
     (λ c κs. search needs)
     (λ c. search needs)

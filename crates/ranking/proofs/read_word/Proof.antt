@@ -1,71 +1,44 @@
--- `read_word` meets its contract: with enough lent, `word_parts` answers and leaves behind what the word's outcome says, and the
--- position is counted in the list where that outcome gives a chain.
-use mathlib.Core.Path.{sym, ap, _∙_}
+-- `read_word` meets its contract: a word that is packed stands in the list of its number.
+use mathlib.Core.Path.{sym, _∙_}
 use borrow.Author.Needs.{needs}
 use Rattle.lent.specs.LentLaws.{little-scratch, little-places}
-use Rattle.ranking.specs.Services.{answerOf}
-use Rattle.ranking.proofs.Answers.{little, served, read-chain, read-refused, word-left}
-use Rattle.ranking.proofs.Answers.{word-listed, word-found}
+use Rattle.words.specs.PackedLaws.{packed-letters}
+use Rattle.ranking.proofs.Answers.{little, served-given, refused-served, word-gives, word-held, held-chain, word-refused}
 use Rattle.ranking.proofs.read_word.Statement.{statement}
 use Rattle.ranking.proofs.read_word.Tie as tie
 
-returns : tie.Need-returns
-returns c = little _ _ _ (little-scratch 64 _ _ (c .if1 .taken))
-
-returns-2 : tie.Need-returns-2
-returns-2 c = little _ _ _ (little-places 64 _ _ (c .if2 .taken))
-
-position-of-requires : tie.Need-position-of-requires
-position-of-requires c κs =
-    let p = c .before .before .before .before .before .before in
-    let room = p .before .before in
-    let a = room .before .before .before .before .before .args in
-    let (chain, given, size) =
-    read-chain (a .letters .now) (a .places .now) (room .if2 .left) _ (p .word-parts .ensures .0) _ _
-    (c .before .before .n .given .1) in
-    record { member = word-listed _ _ _ given; room = room .before .if1 .left }
-
 returns-3 : tie.Need-returns-3
 returns-3 c =
-    let q = c .before .before in
-    let p = q .before .before .before .before .before .before .before in
-    let room = p .before .before in
-    let a = room .before .before .before .before .before .args in
-    let told = q .before .before .before .n .given .1 in
-    let (chain, given, size) =
-    read-chain (a .letters .now) (a .places .now) (room .if2 .left) _ (p .word-parts .ensures .0) _ _ told in
-    served _ _ _ _ _ _ (room .before .if1 .left) (room .if2 .left)
-    (word-found _ _ _ _ _ given size (q .position-of .ensures .0))
-    (p .word-parts .ensures .1 ∙ word-left (a .letters .now) (a .places .now) (room .if2 .left))
-    (q .position-of .ensures .1)
+    let g = c .before .before .before .before in
+    let k = g .before .before .before .before in
+    let w = k .before .before in
+    let t = w .before in
+    let p = packed-letters _ _ _ _ _ (sym (w .pack-letters .ensures) ∙ k .n .given .1) in
+    served-given _ _ _ _ _ _ (t .before .if1 .left) (t .if2 .left)
+    (rw (word-gives p, ← held-chain _ (word-held p .member)) (g .give-word .ensures .0 _ (word-held p))) (g .give-word .ensures .1)
 
 returns-4 : tie.Need-returns-4
 returns-4 c =
-    let q = c .before .before in
-    let p = q .before .before .before .before .before .before .before in
-    let room = p .before .before in
-    let a = room .before .before .before .before .before .args in
-    let told = q .before .before .before .number .given .1 in
-    let given = read-refused (a .letters .now) (a .places .now) (room .if2 .left) _ (p .word-parts .ensures .0) _ told in
-    served _ _ _ _ _ _ (room .before .if1 .left) (room .if2 .left)
-    (q .refuse .ensures .0 ∙ ap answerOf (sym given))
-    (p .word-parts .ensures .1 ∙ word-left (a .letters .now) (a .places .now) (room .if2 .left))
-    (q .refuse .ensures .1)
+    let z = c .before .before in
+    let k = z .before .before .before in
+    let w = k .before .before in
+    let t = w .before in
+    refused-served _ _ _ _ _ _ (t .before .if1 .left) (t .if2 .left)
+    (word-refused _ _ (sym (w .pack-letters .ensures) ∙ k .number .given .1)) (z .refuse .ensures .0) (z .refuse .ensures .1)
 
 pub read-word-spec : {M : Type 1} → statement M
 read-word-spec =
     tie.close
     (tie.spec
-    returns
-    returns-2
+    (λ c. little _ _ _ (little-scratch 64 _ _ (c .if1 .taken)))
+    (λ c. little _ _ _ (little-places 64 _ _ (c .if2 .taken)))
     (λ c κs. search needs)
     (λ c. search needs)
-    position-of-requires
+    (λ c κs. let t = c .before .before .before .before .before .before in (t .before .if1 .left, t .if2 .left))
     (λ c. search needs)
-    (λ c κs. search needs)
+    (λ c κs. c .before .before .before .before .before .before .if1 .left)
     (λ c. search needs)
     (λ c. search needs)
     returns-3
-    (λ c. search needs)
     (λ c. search needs)
     returns-4)

@@ -39,24 +39,24 @@ module _ (l : List ℕ) (m x : ℕ) where
       unfolding runJudged
       refused r e = sym (asked ∙ rw (packed-refused l r e))
 
-      residue : (rises marks letters r : ℕ) → packedOf l ≡ packed.Word rises marks letters
+      residue : (n rises marks letters r : ℕ) → packedOf l ≡ packed.Word n rises marks letters
           → r ≡ run m x (unpacked letters rises marks) → Residue r ≡ ranOf l m x
       unfolding runJudged chainRun
-      residue rises marks letters r e f =
-          let w = packed-word l rises marks letters e in
-          rw (f, w .word) (sym (asked ∙ rw (judged-sum l (w .number) .1 (w .burned))))
+      residue n rises marks letters r e f =
+          let w = packed-word l n rises marks letters e in
+          rw (f, w .word) (sym (asked ∙ rw (judged-sum l n .1 (w .burned))))
 
 run-word-requires : tie.Need-run-word-requires
 run-word-requires c κs =
     let k = c .before .before .before in
-    let w = packed-word _ _ _ _ (sym (k .pack-word .ensures) ∙ c .before .rises .given .1) in
+    let w = packed-word _ _ _ _ _ (sym (k .pack-word .ensures) ∙ c .before .rises .given .1) in
     (w .few, k .before .if3 .left, k .before .before .if2 .left)
 
 returns-4 : tie.Need-returns-4
 returns-4 c =
     let k = c .before .before .before .before in
     let t = k .before in
-    residue _ _ _ (t .before .before .if1 .left) (t .before .if2 .left) (t .if3 .left) _ _ _ _
+    residue _ _ _ (t .before .before .if1 .left) (t .before .if2 .left) (t .if3 .left) _ _ _ _ _
     (sym (k .pack-word .ensures) ∙ c .before .before .rises .given .1) (c .run-word .ensures)
 
 returns-5 : tie.Need-returns-5

@@ -12,29 +12,12 @@ Inv-loop scratch₀ places₀ i₀ scratch places i = (i ≤ 88) × (length scra
 abbrev μ-loop : tie.MeasureT-loop
 μ-loop scratch₀ places₀ i₀ scratch places i = 88 - i
 
-abbrev Inv-loop2 : tie.InvT-loop2
-Inv-loop2 scratch₀ places₀ j₀ scratch places j = (j ≤ 4) × (length scratch ≡ length scratch₀) × (length places ≡ length places₀)
-
-abbrev μ-loop2 : tie.MeasureT-loop2
-μ-loop2 scratch₀ places₀ j₀ scratch places j = 4 - j
-
 pub tell-edges-spec : {M : Type 1} → statement M
 tell-edges-spec =
     tie.close
     (tie.spec
     Inv-loop
     μ-loop
-    Inv-loop2
-    μ-loop2
-    (λ c. search needs)
-    (λ c κs. search needs)
-    (λ c. search needs)
-    (λ c κs. search needs)
-    (λ c κs. search needs)
-    (λ c. search needs)
-    (λ c. search needs)
-    (λ c. search needs)
-    (λ c. search needs)
     (λ c. search needs)
     (λ c κs. search needs)
     (λ c. search needs)

@@ -7,10 +7,10 @@ use Rattle.test_ranking.proofs.tell_many_parts.Statement.{statement}
 use Rattle.test_ranking.proofs.tell_many_parts.Tie as tie
 
 abbrev Inv-loop : tie.InvT-loop
-Inv-loop numbers₀ a₀ numbers a = (a ≤ 64) × (length numbers ≡ 65)
+Inv-loop size numbers₀ a₀ numbers a = (a ≤ 64) × (length numbers ≡ 65)
 
 abbrev μ-loop : tie.MeasureT-loop
-μ-loop numbers₀ a₀ numbers a = 64 - a
+μ-loop size numbers₀ a₀ numbers a = 64 - a
 
 pub tell-many-parts-spec : {M : Type 1} → statement M
 tell-many-parts-spec =

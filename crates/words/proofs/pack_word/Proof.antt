@@ -20,7 +20,7 @@ able t l n d e =
     let b = judged-sum l n .0 e in
     record { is-codes = d; burned = rw (b .chain .sums) b; room = omega arith }
 
-word : (l : List ℕ) (n : ℕ) → judgedOf l ≡ judged.Sum n → packedWord (wordOf (recordParts l)) ≡ packedOf l
+word : (l : List ℕ) (n : ℕ) → judgedOf l ≡ judged.Sum n → packedWord n (wordOf (recordParts l)) ≡ packedOf l
 unfolding packedOf packedBy
 word l n e = rw e
 
@@ -37,9 +37,9 @@ pack-word-spec =
     (λ c κs. search needs)
     (λ c. search needs)
     (λ c. search needs)
-    (λ c κs. let j = c .before .before .before in
-    able _ _ _ (j .before .before .copy .ensures) (sym (j .judge .ensures) ∙ c .before .enum-told .given .1))
+    (λ c κs. let m = c .before .before in let j = m .before .before in
+    able _ _ _ (j .before .before .copy .ensures) (sym (j .judge .ensures) ∙ m .n .given .1))
     (λ c. search needs)
-    (λ c. let j = c .before .before .before .before in
-    c .pack .ensures ∙ word _ _ (sym (j .judge .ensures) ∙ c .before .before .enum-told .given .1))
+    (λ c. let m = c .before .before .before in let j = m .before .before in
+    c .pack .ensures ∙ word _ _ (sym (j .judge .ensures) ∙ m .n .given .1))
     (λ c. let j = c .before .before .before in refused _ _ (sym (j .judge .ensures) ∙ c .before .number .given .1)))

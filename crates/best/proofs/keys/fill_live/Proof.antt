@@ -3,9 +3,7 @@
 use mathlib.Core.Path.{refl}
 use native.Mathlib.Omega.{arith}
 use borrow.Author.Needs.{needs}
-use lib.ListN.{length-set}
-use Rattle.grid.specs.Fill.{filled-on}
-use Rattle.best.specs.KeyRowsLaws.{end-within, within-asked, end-beyond, beyond-asked}
+use Rattle.best.specs.KeyRowsLaws.{within-asked, within-told, beyond-asked, beyond-told}
 use Rattle.best.proofs.keys.fill_live.Statement.{statement}
 use Rattle.best.proofs.keys.fill_live.Tie as tie
 
@@ -14,24 +12,24 @@ fill-below-requires c κs =
     let t = c .before .before in
     within-asked (t .before .before .pre) (t .if1 .taken)
 
-fill-below-requires-2 : tie.Need-fill-below-requires-2
-fill-below-requires-2 c κs =
-    let n = c .before .before .before in
-    beyond-asked (n .before .before .before .before .pre) _ refl (omega arith) (n .fill-none .ensures)
-
 returns : tie.Need-returns
 returns c =
     let f = c .before .before in
     let t = f .before .before .before in
-    filled-on _ (end-within (t .before .before .pre) (t .if1 .taken)) (f .fill-below .ensures)
+    within-told (t .before .before .pre) (t .if1 .taken) (f .fill-below .ensures)
+
+fill-below-requires-2 : tie.Need-fill-below-requires-2
+fill-below-requires-2 c κs =
+    let n = c .before .before .before in
+    let t = n .before .before in
+    beyond-asked (t .before .before .pre) _ refl (omega (arith, t .if1 .left)) (n .fill-none .ensures)
 
 returns-2 : tie.Need-returns-2
 returns-2 c =
     let f = c .before .before in
     let n = f .before .before .before .before in
-    filled-on _
-    (end-beyond (n .before .before .before .before .pre) _ refl (omega arith) (n .fill-none .ensures))
-    (f .fill-below2 .ensures)
+    let t = n .before .before in
+    beyond-told (t .before .before .pre) _ refl (omega (arith, t .if1 .left)) (n .fill-none .ensures) (f .fill-below2 .ensures)
 
 pub fill-live-spec : {M : Type 1} → statement M
 fill-live-spec =
@@ -39,20 +37,14 @@ fill-live-spec =
     (tie.spec
     (λ c. search needs)
     (λ c. search needs)
-    (λ c. search needs)
-    (λ c. search needs)
-    (λ c. search needs)
-    (λ c. search needs)
-    (λ c. search needs)
-    (λ c. simp length-set (omega arith))
+    (λ c. omega (arith, c .before .before .before .pre .asked .room, c .before .before .before .pre .last))
     fill-below-requires
-    (λ c. search needs)
-    (λ c. search needs)
-    (λ c. search needs)
-    (λ c. search needs)
-    (λ c κs. search needs)
-    fill-below-requires-2
-    (λ c. returns c .same)
+    (λ c. returns c .filled .same)
     returns
-    (λ c. search needs)
+    (λ c. omega (arith, c .if1 .left, c .before .before .pre .last))
+    (λ c. omega (arith, c .before .before .before .pre .last))
+    (λ c κs. let s = c .before .before .before in
+    (omega (arith, c .before .if1 .left), omega (arith, s .pre .last), omega (arith, s .pre .asked .room)))
+    fill-below-requires-2
+    (λ c. returns-2 c .filled .same)
     returns-2)

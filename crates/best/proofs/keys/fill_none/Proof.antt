@@ -17,7 +17,7 @@ abbrev μ-loop : tie.MeasureT-loop
 loop-again : tie.Need-loop-again Inv-loop μ-loop
 loop-again c =
     let l = c .before .loop in
-    (none-more (l .inv .0) (omega arith) (omega arith), omega arith, omega arith)
+    (none-more (l .inv .0) (l .inv .1) (omega arith) (omega arith), omega arith, omega arith)
 
 returns : tie.Need-returns Inv-loop μ-loop
 returns c =

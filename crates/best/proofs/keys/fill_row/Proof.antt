@@ -1,8 +1,7 @@
 -- `fill_row` fills its row: where nothing is left nothing is to be filled, and above the limit there is no word.
 use native.Mathlib.Omega.{arith}
 use borrow.Author.Needs.{needs}
-use Rattle.grid.specs.Fill.{dead-columns}
-use Rattle.best.specs.KeyRowsLaws.{outside-row, top-of}
+use Rattle.best.specs.KeyRowsLaws.{no-row, outside-row, top-of}
 use Rattle.best.proofs.keys.fill_row.Statement.{statement}
 use Rattle.best.proofs.keys.fill_row.Tie as tie
 
@@ -22,7 +21,7 @@ returns-2 c =
     let o = n .before .before in
     let s = o .before .before .before in
     let t = top-of (s .args .m) (omega arith) (s .fits .m .fits) in
-    outside-row _ _ _ _ _ _ (t .2) (n .fill-none .ensures) (o .if2 .taken)
+    outside-row _ _ _ _ _ _ (t .2) (omega arith) (n .fill-none .ensures) (o .if2 .taken)
 
 fill-live-requires : tie.Need-fill-live-requires
 fill-live-requires c κs =
@@ -34,14 +33,13 @@ pub fill-row-spec : {M : Type 1} → statement M
 fill-row-spec =
     tie.close
     (tie.spec
-    (λ c. dead-columns _ _ _ 0 _ (omega arith))
+    (λ c. no-row _ _ _ _ _ _ (c .if1 .taken))
     cast-top
     sub-top
     (λ c. search needs)
-    (λ c. search needs)
-    (λ c κs. search needs)
+    (λ c κs. (omega arith, omega arith, omega (arith, c .before .before .before .before .pre .asked .room)))
     (λ c. search needs)
     returns-2
     fill-live-requires
-    (λ c. search needs)
-    (λ c. search needs))
+    (λ c. c .before .before .fill-live .ensures .filled .same)
+    (λ c. c .before .before .fill-live .ensures))

@@ -1,5 +1,5 @@
 -- The three sums are one remainder: of twice r, and of once more r where b rises and x at a part.
-use mathlib.Core.Path.{_≡_, sym, ap, _∙_}
+use mathlib.Core.Path.{_≡_, sym, _∙_}
 use Prim.Native.Nat.{ℕ, _+_, _*_, _%_, _≤_, _<_}
 use native.Mathlib.Nat.{add-mod, mul-le-mul-right}
 use native.Mathlib.Omega.{arith}
@@ -24,8 +24,13 @@ with-letter-spec =
     (tie.spec
     (λ c κs. search needs)
     (λ c. let s = c .before in omega (arith, once (s .args .up) (s .args .r) (s .args .m) (s .pre .0) (s .pre .2), s .pre .4))
-    (λ c. let s = c .before in omega (arith, once (s .args .part) (s .args .x) (s .args .m) (s .pre .1) (s .pre .3), s .pre .4))
-    (λ c κs. let s = c .before in (once _ _ _ (s .pre .0) (s .pre .2), once _ _ _ (s .pre .1) (s .pre .3), s .pre .4))
+    (λ c. let s = c .before in omega (
+      arith,
+      once (s .args .part) (s .args .x) (s .args .m) (s .pre .1) (s .pre .3),
+      once (s .args .part) (s .args .r) (s .args .m) (s .pre .1) (s .pre .2),
+      s .pre .4,
+    ))
+    (λ c κs. search (needs, once))
     (λ c κs. search needs)
     (λ c. (
       at-once _ _ _ _ _ _ _ _ (c .before .before .sum-modulo .ensures .0) (c .before .sum-modulo2 .ensures .0)

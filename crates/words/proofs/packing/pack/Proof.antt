@@ -16,15 +16,15 @@ use Rattle.words.proofs.Back.{no-word, known, parted, letters, last, wa
 use Rattle.words.proofs.packing.pack.Statement.{statement}
 use Rattle.words.proofs.packing.pack.Tie as tie
 
-none : (l : List ℕ) → length l ≡ 0 → packed.Word 0 0 0 ≡ packedWord (wordOf (recordParts l))
+none : (l : List ℕ) (m : ℕ) → length l ≡ 0 → packed.Word m 0 0 0 ≡ packedWord m (wordOf (recordParts l))
 unfolding packedWord bits wordOf
-none l e = rw (no-word l e)
+none l m e = rw (no-word l e)
 
 whole : (t l : List ℕ) (n : ℕ) (able : Writable t l n) (some : length l ≡ 0 → ⊥) (p : Part) (e : p ≡ partAt (getD l 0 0))
-    (rises marks : ℕ) → PackedAs (walk p (recordParts (drop 1 l)) (3 ∷ [])) rises marks
-    → packed.Word rises marks (place p + 1) ≡ packedWord (wordOf (recordParts l))
+    (m rises marks : ℕ) → PackedAs (walk p (recordParts (drop 1 l)) (3 ∷ [])) rises marks
+    → packed.Word m rises marks (place p + 1) ≡ packedWord m (wordOf (recordParts l))
 unfolding packedWord wordOf
-whole t l n able some p e rises marks held =
+whole t l n able some p e m rises marks held =
     let long = letters t l n able some p e in
     rw (← long, parted t l n able some p e, held .rising, held .marking)
 
@@ -32,7 +32,7 @@ pub pack-spec : {M : Type 1} → statement M
 pack-spec =
     tie.close
     (tie.spec
-    (λ c. none _ (c .if1 .taken))
+    (λ c. none _ _ (c .if1 .taken))
     (λ c. search needs)
     (λ c κs. let s = c .before .before .before .before in (s .pre .is-codes, known _ _ _ (s .pre) (c .before .if1 .left)))
     (λ c κs. let f = c .before .before in let s = f .before .before .before in
@@ -43,4 +43,4 @@ pack-spec =
     (λ c. let q = c .before .before in let f = q .before .before in let s = f .before .before .before in
     omega (arith, last _ _ _ (s .pre) (f .if1 .left) _ (q .part-of .ensures)))
     (λ c. let b = c .before in let q = b .before in let f = q .before .before in let s = f .before .before .before in
-    whole _ _ _ (s .pre) (f .if1 .left) _ (q .part-of .ensures) _ _ (b .pack-back .ensures)))
+    whole _ _ _ (s .pre) (f .if1 .left) _ (q .part-of .ensures) _ _ _ (b .pack-back .ensures)))

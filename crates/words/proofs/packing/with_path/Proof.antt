@@ -1,18 +1,15 @@
 -- Nothing is lost by the shifts: the sums are below 2^64.
 use mathlib.Core.Path.{_≡_}
 use Prim.Native.Nat.{ℕ, _+_, _-_, _*_, _^_, _%_, _≤_, _<_}
-use native.Mathlib.Nat.{pow-suc, one-mul, mul-comm, mod-eq-of-lt, pow-le-pow-right}
+use native.Mathlib.Nat.{mul-comm, mod-eq-of-lt}
 use native.Mathlib.Omega.{arith}
 use borrow.Author.Needs.{needs}
 use lib.Pow.{pow-pos}
 use Rattle.chains.specs.Chains.{Part}
 use Rattle.words.specs.Walks.{steps, risesFrom, marksFrom, Joins}
+use Rattle.words.proofs.Powers.{power}
 use Rattle.words.proofs.packing.with_path.Statement.{statement}
 use Rattle.words.proofs.packing.with_path.Tie as tie
-
-power : (k : ℕ) → k < 64 → 1 * 2 ^ k % 2 ^ 64 ≡ 2 ^ k
-power k h =
-    rw (one-mul (2 ^ k)) (mod-eq-of-lt (omega (arith, pow-suc 2 k, pow-le-pow-right {n = 2} (omega arith) h)))
 
 shifted : (x k : ℕ) → 2 ^ k * x < 2 ^ 64 → x * 2 ^ k % 2 ^ 64 ≡ 2 ^ k * x
 shifted x k h = rw (mul-comm x (2 ^ k)) (mod-eq-of-lt h)

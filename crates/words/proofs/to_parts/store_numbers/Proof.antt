@@ -1,81 +1,156 @@
--- `store_numbers` meets its contract: the invariant is that the walk along the letters stores the numbers of the parts. A letter
--- left means that a part is to come, so there is a place to store at, and that the point is no larger than the word's number.
-use mathlib.Core.Path.{_≡_}
-use mathlib.Core.List.{List, _∷_, _++_, map}
-use Prim.Native.Nat.{ℕ, suc, _+_, _-_, _/_, _%_, _≤_, _<_}
+-- The numbers stored and those of the parts that the marks left give are those of all parts: this is the invariant. A turn takes
+-- the highest mark, which is the largest part's.
+use mathlib.Core.Path.{_≡_, refl, sym, ap, _∙_}
+use mathlib.Core.List.{List, [], _∷_, _++_, map, append-nil}
+use Prim.Native.Nat.{ℕ, suc, _+_, _-_, _*_, _%_, _^_, _≤_, _<_}
 use native.Mathlib.Numerals.{add-one}
 use native.Mathlib.Omega.{arith}
-use lib.ListN.{length, drop, getD, set, drop-of-length-le}
-use lib.Seq.{drop-cons}
+use lib.Count.{leadingZeros, leading-top, ones-le}
+use lib.Pow.{pow-pos}
+use lib.ListN.{length, drop, getD, set, length-append, length-map, length-set}
+use lib.Seq.{append-snoc, drop-cons, set-at}
 use borrow.Author.Needs.{needs}
-use Rattle.chains.specs.Chains.{total}
-use Rattle.chains.specs.Words.{Word, chainOf}
-use Rattle.chains.specs.Marks.{point}
-use Rattle.chains.specs.Bounds.{part-bounds}
-use Rattle.parts.specs.Parts.{limit, partNumber}
-use Rattle.words.specs.Storing.{Storing}
-use Rattle.words.specs.StoringLaws.{storing-start, storing-more, storing-low, storing-next, storing-end}
+use Rattle.parts.specs.Parts.{partNumber}
+use Rattle.words.specs.Packed.{packedChain}
+use Rattle.words.specs.UnpackedLaws.{packed-none, packed-count, packed-largest}
+use Rattle.words.specs.Walks.{pointAt}
+use Rattle.words.proofs.Powers.{power}
 use Rattle.words.proofs.to_parts.store_numbers.Statement.{statement}
 use Rattle.words.proofs.to_parts.store_numbers.Tie as tie
 
--- What a step needs at the letter x.
-record Bounds (l : List ℕ) (x a b left : ℕ) : Type 0 where
-  more : 0 < left
-  room : left ≤ length l
-  low : x ≤ 3
-  across : a < 64
-  upward : b < 41
+-- ---- the highest mark
 
+abbrev place : ℕ → ℕ
+place m = 63 - leadingZeros 64 m
+
+record Highest (m : ℕ) : Type 0 where
+  few : leadingZeros 64 m ≤ 63
+  least : 2 ^ place m ≤ m
+  most : m < 2 ^ suc (place m)
+  bit : 1 * 2 ^ place m % 2 ^ 64 ≡ 2 ^ place m
+
+highest : (m : ℕ) → 0 < m → m < 2 ^ 64 → Highest m
+highest m some fits =
+    let (j, all, least, most) = leading-top 64 m some fits in
+    let here : j ≡ place m = omega arith in
+    record {
+      few = omega arith;
+      least = rw here at least;
+      most = rw here at most;
+      bit = power (place m) (omega arith);
+    }
+
+-- ---- the places
+
+-- Of the numbers `all` those in `left` are still to be stored; l are the places, which were `entry`, and k of them are stored at.
+record Stored (all left entry l : List ℕ) (k : ℕ) : Type 0 where
+  met : List ℕ
+  split : all ≡ met ++ left
+  count : length met ≡ k
+  stored : l ≡ met ++ drop k entry
+  same : length l ≡ length entry
+
+start : (all entry : List ℕ) → Stored all all entry entry 0
+start all entry = record { met = []; split = refl; count = refl; stored = refl; same = refl }
+
+module _ {all left entry l : List ℕ} {k : ℕ} (s : Stored all left entry l k) where
+  all-placed : k + length left ≡ length all
+  all-placed = omega (arith, ap length (s .split), length-append (s .met) left, s .count)
+
+  next : (v : ℕ) (rest : List ℕ) → left ≡ v ∷ rest → k < length entry → Stored all rest entry (set l k v) (k + 1)
+  next v rest e h =
+      record {
+        met = s .met ++ (v ∷ []);
+        split = s .split ∙ ap (λ z. s .met ++ z) e ∙ sym (append-snoc (s .met) v rest);
+        count = length-append (s .met) (v ∷ []) ∙ omega (arith, s .count);
+        stored =
+            ap (λ z. set z k v) (s .stored ∙ ap (λ z. s .met ++ z) (drop-cons entry k 0 h))
+            ∙ set-at (s .met) (getD entry k 0) (drop (suc k) entry) v k (s .count)
+            ∙ rw add-one (sym (append-snoc (s .met) v (drop (suc k) entry)));
+        same = length-set l k v ∙ s .same;
+      }
+
+  none-left : left ≡ [] → l ≡ all ++ drop (length all) entry
+  none-left e =
+      let whole : all ≡ s .met = s .split ∙ ap (λ z. s .met ++ z) e ∙ append-nil (s .met) in
+      let long : length all ≡ k = ap length whole ∙ s .count in
+      rw (long, whole) (s .stored)
+
+-- ---- the numbers of the parts
+
+abbrev numbers : ℕ → ℕ → List ℕ
+numbers rises m = map partNumber (packedChain rises m)
+
+at-most-64 : (rises m : ℕ) → m < 2 ^ 64 → length (numbers rises m) ≤ 64
+at-most-64 rises m fits =
+    omega (arith, length-map (packedChain rises m) partNumber, packed-count rises m fits, ones-le 64 m fits)
+
+none : (rises m : ℕ) → m ≤ 0 → numbers rises m ≡ []
+none rises m h = let z : m ≡ 0 = omega arith in rw (z, packed-none rises)
+
+first : (rises m : ℕ) → Highest m
+    → numbers rises m ≡ partNumber (pointAt rises (place m)) ∷ numbers rises (m - 1 * 2 ^ place m % 2 ^ 64)
+first rises m h =
+    rw (h .bit) (ap (map partNumber) (packed-largest rises m (place m) (omega arith) (h .least) (h .most)))
+
+-- A turn, while a mark is left.
 module _
-    (w : Word) {behind : List ℕ} {size : ℕ} {l : List ℕ} {a b left : ℕ} (i : ℕ)
-    (s : Storing (chainOf w) behind size (drop i w) l a b left)
+    (rises marks left k : ℕ) (entry l : List ℕ) (fits : marks < 2 ^ 64) (room : 64 ≤ length entry) (low : left ≤ marks)
+    (s : Stored (numbers rises marks) (numbers rises left) entry l k) (some : 0 < left)
   where
-    -- Where the letter at i is left.
-    module _ (h : i < length w) where
-      here : Storing (chainOf w) behind size (getD w i 0 ∷ drop (suc i) w) l a b left
-      here = rw (drop-cons w i 0 h) at s
+    top : Highest left
+    top = highest left some (omega arith)
 
-      bounds : total (chainOf w) < limit → Bounds l (getD w i 0) a b left
-      bounds fits = omega (arith, storing-more here, part-bounds (point a b) (storing-low here fits))
+    more : k < 64
+    more = omega (arith, all-placed s, at-most-64 rises marks fits, ap length (first rises left top))
 
-      next : {n : ℕ} → n ≡ partNumber (point a b)
-          → Storing (chainOf w) behind size (drop (i + 1) w) (set l (left - 1) n) (a + (1 - getD w i 0 / 2)) (b + getD w i 0 / 2)
-          (left - getD w i 0 % 2)
-      next e = rw (add-one, e) (storing-next here)
+    again : (v : ℕ) → v ≡ partNumber (pointAt rises (place left))
+        → Stored (numbers rises marks) (numbers rises (left - 1 * 2 ^ place left % 2 ^ 64)) entry (set l k v) (k + 1)
+    again v e = rw e (next s (partNumber (pointAt rises (place left))) _ (first rises left top) (omega (arith, more)))
 
-    -- Where no letter is left.
-    all : length w ≤ i → l ≡ map partNumber (chainOf w) ++ behind
-    all h = storing-end (rw (drop-of-length-le w h) at s)
+-- No mark is left.
+done : (rises marks left k : ℕ) (entry l : List ℕ) → Stored (numbers rises marks) (numbers rises left) entry l k → left ≤ 0
+    → l ≡ numbers rises marks ++ drop (length (packedChain rises marks)) entry
+done rises marks left k entry l s h = rw (← length-map (packedChain rises marks) partNumber) (none-left s (none rises left h))
 
 abbrev Inv-loop : tie.InvT-loop
-Inv-loop letters places₀ k a₀ b₀ left₀ i₀ places a b left i =
-    Storing (chainOf letters) (drop k places₀) (length places₀) (drop i letters) places a b left
+Inv-loop rises marks places₀ left₀ k₀ places left k =
+    (left ≤ marks) × Stored (numbers rises marks) (numbers rises left) places₀ places k
 
 abbrev μ-loop : tie.MeasureT-loop
-μ-loop letters places₀ k a₀ b₀ left₀ i₀ places a b left i = length letters - i
+μ-loop rises marks places₀ left₀ k₀ places left k = left
 
-known : (c : tie.In-loop Inv-loop μ-loop) → let t = c .before .loop in
-    Bounds (t .places) (getD (c .before .before .before .before .args .letters .now) (t .i) 0) (t .a) (t .b) (t .left)
-known c = bounds _ _ (c .before .loop .inv) (c .loop-test .taken) (c .before .before .before .before .pre .1)
+-- What is known at a turn: the highest mark, and that there is a place for its part.
+module _ (c : tie.In-loop Inv-loop μ-loop) where
+  known : Highest (c .before .loop .left)
+  known = highest _ (c .loop-test .taken) (omega (arith, c .before .loop .inv .0, c .before .before .before .fits))
+
+  inside : (c .before .loop .k < 64) × (64 ≤ length (c .before .loop .places))
+  inside =
+      let t = c .before .loop in
+      let s = c .before .before .before in (
+        more (s .args .rises) (s .args .marks) (t .left) (t .k) _ (t .places) (search needs) (s .pre) (t .inv .0) (t .inv .1)
+            (c .loop-test .taken),
+        omega (arith, s .pre, t .inv .1 .same),
+      )
 
 pub store-numbers-spec : {M : Type 1} → statement M
 store-numbers-spec =
     tie.close
     (tie.spec Inv-loop μ-loop
-    (λ c. let s = c .before .before in storing-start _ _ _ (rw (s .pre .0) tt) (s .pre .2) (s .pre .3))
-    (λ c. search needs)
-    (λ c κs. search needs)
-    (λ c. omega (arith, known (c .before .before)))
-    (λ c. omega (arith, known (c .before .before)))
-    (λ c. omega (arith, known (c .before .before)))
-    (λ c. omega (arith, known (c .before .before)))
-    (λ c. omega (arith, known (c .before .before)))
-    (λ c. omega (arith, known (c .before .before)))
-    (λ c. omega (arith, known (c .before .before)))
-    (λ c. omega (arith, known (c .before .before)))
-    (λ c. omega (arith, known (c .before .before)))
+    (λ c. (search needs, start _ _))
+    (λ c. known c .few)
+    (λ c κs. omega arith)
+    (λ c. omega (arith, inside (c .before)))
+    (λ c. omega (arith, inside (c .before)))
     (λ c. search needs)
     (λ c. search needs)
-    (λ c. let t = c .before .before in next _ _ (t .before .loop .inv) (t .loop-test .taken) (c .part-number .ensures))
-    (λ c. c .before .loop .inv .same)
-    (λ c. all _ _ (c .before .loop .inv) (c .loop-test .left)))
+    (λ c. omega (arith, known (c .before) .bit, known (c .before) .least))
+    (λ c. omega (arith, inside (c .before)))
+    (λ c. let h = known (c .before) in omega (arith, h .bit, h .least, pow-pos (place (c .before .before .loop .left))))
+    (λ c. let t = c .before in let v = t .before .loop .inv in let s = t .before .before .before in (
+      omega (arith, v .0),
+      again _ _ _ _ _ _ (search needs) (s .pre) (v .0) (v .1) (t .loop-test .taken) _ (c .number-at .ensures),
+    ))
+    (λ c. c .before .loop .inv .1 .same)
+    (λ c. done _ _ _ _ _ _ (c .before .loop .inv .1) (c .loop-test .left)))
