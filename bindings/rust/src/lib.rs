@@ -165,7 +165,7 @@ impl Default for Terminal {
 }
 
 impl Terminal {
-    /// A terminal, with some 5 kB of memory.
+    /// A terminal, with some 5 KB of memory.
     pub fn new() -> Self {
         Terminal { scratch: vec![0; SCRATCH], places: [0; PLACES], reply: [0; REPLY] }
     }

@@ -4,23 +4,24 @@
 -- places and its position.
 use mathlib.Core.Path.{_≡_, refl, ap, ap₂, _∙_}
 use mathlib.Core.Bool.{true}
-use mathlib.Core.List.{List, map, List·Memᴰ}
+use mathlib.Core.List.{List, map}
 use mathlib.Core.Option.{none}
 use Prim.Native.Nat.{ℕ, _≤_}
 use native.Mathlib.Omega.{arith}
 use borrow.Author.Tests.{le-ltb}
 use lib.ListN.{length}
 use Rattle.chains.specs.Chains.{Part}
-use Rattle.chains.specs.Words.{Word, chainOf}
+use Rattle.chains.specs.Words.{chainOf}
 use Rattle.chains.specs.Listing.{listOf, countBefore, position}
 use Rattle.chains.specs.RoundTrip.{word-chain-word}
 use Rattle.chains.specs.Best.{Prices, Limits, bestChain}
 use Rattle.lent.specs.Lent.{filled, OnlyFirst, scratchSize, littleScratch, scratchLeft, tooLittle, Enough}
-use Rattle.lent.specs.LentLaws.{enough-zeroed, scratch-enough, used-left}
+use Rattle.lent.specs.LentLaws.{enough-zeroed, used-left}
 use Rattle.parts.specs.Parts.{partNumber}
-use Rattle.words.specs.Packed.{bits, rise, packedChain, partsLeft}
+use Rattle.words.specs.Packed.{packedChain, partsLeft}
 use Rattle.words.specs.PackedLaws.{packed-chain}
-use Rattle.counting.specs.Ranked.{beforeOf}
+use Rattle.counting.specs.Ranked.{PositionTold}
+use Rattle.counting.specs.RankedLaws.{told-before}
 use Rattle.counting.specs.declared.Counted.{Counted}
 use Rattle.counting.specs.declared.Counted.the-variants as counted
 use Rattle.ranking.specs.Services.{Outcome, gives, lent, placesLeft}
@@ -70,10 +71,9 @@ module _ (π : Prices) (n : ℕ) (lim : Limits) {s p : List ℕ} (h : Enough 64 
     stands = rw (le-ltb (length p) 64 (h .room)) (ap (λ (c : List Part). filled 64 (map partNumber c) p) chain-is)
 
     -- and it is counted: the scratch is large enough.
-    module _ {r : Counted} (e : (v : Word) → List·Memᴰ v (listOf n) → rises ≡ bits rise v → r ≡ beforeOf n v l) where
+    module _ {r : Counted} (t : PositionTold n rises l r) where
       counts : r ≡ counted.Count (countBefore (w .word) (listOf n))
-      unfolding beforeOf
-      counts = e (w .word) (w .member) (w .rising) ∙ rw (scratch-enough l size)
+      counts = told-before size (w .word) (w .member) (w .rising) t
 
       pub not-refused : {x : ℕ} → r ≡ counted.Refused x → ⊥
       not-refused f = let z : _≡_ {A = ℕ} 0 1 = cc (counts) in omega arith

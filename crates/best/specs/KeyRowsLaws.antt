@@ -359,7 +359,7 @@ module _ {costs : List ℕ} {A B n k : ℕ} {l : List ℕ} (asked : KeysAsked co
     more : RowsFilled 64 0 G n k l l′
     more = row-more 64 0 G (omega arith) (asked .keys .rows) (asked .last) at (t .filled)
 
-    pub keys-room : 512 ≤ length l′
+    pub keys-room : scratchSize ≤ length l′
     keys-room = more .rows .size
 
     pub keys-more : KeysFilled costs A B n k l (set l′ (128 + k) x)
@@ -371,7 +371,7 @@ module _ {costs : List ℕ} {A B n k : ℕ} {l : List ℕ} (asked : KeysAsked co
           };
           used = record {
             same = length-set l′ (128 + k) x ∙ more .used .same;
-            later = drop-set-lt 512 l′ (128 + k) x (omega (arith, asked .last)) ∙ more .used .later;
+            later = drop-set-lt scratchSize l′ (128 + k) x (omega (arith, asked .last)) ∙ more .used .later;
           };
         }
       where

@@ -6,7 +6,8 @@
 // m >> a, where m is the rest of the row's first column, and q that of the row above. Two masks, made once a row, hold the
 // remainders by three of all its rests, so no cell is divided, and a bit chooses a cost without a branch.
 //
-// A cell is not cut at the key of no word: it holds a number whose cut is the key. Each cost is at most that key, so no sum wraps.
+// A cell is not cut at the key of no word: it holds a number whose cut is the key. Each cost is at most that key, so no sum wraps
+// where something is left.
 //
 // `doublings` and `triplings` are the limits A and B.
 use super::Prices;

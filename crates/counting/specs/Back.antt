@@ -18,7 +18,7 @@ pub record TopOf (x bit below : ℕ) : Type 0 where
   pub high : x < 2 ^ suc bit
   pub less : below ≡ x - 2 ^ bit
 
--- What the walk asks: the rows of n from row b on, where b rises as often as the path has bits.
+-- What the walk asks: the rows of n from row b on, where b rises as often as the path has ones.
 pub record BackAsked (n path b : ℕ) (scratch : List ℕ) : Type 0 where
   pub rows : CountRows n b scratch
   pub rises : b ≡ ones path

@@ -1,8 +1,8 @@
 // From a word to its position, by a walk back along its path while the rows of counts come down.
 //
-// A word of the list of n is known by its path: bit i of a number says whether b rises at the i-th letter. Where b rises in row b, at
-// the column a, the words with a rise of a there stand before. Their number is that of the cell without that of the cell above, so it
-// is picked up as row b is filled.
+// A word of the list of n is known by its path: bit i of a number says whether b rises at the i-th letter. Suppose b
+// rises at the point (a, b). The words that agree with it up to there and raise a instead come before it. Their number is the cell's
+// minus that of the cell above, so it is taken as row b is filled.
 use super::rows;
 use std::num::wrapping_add_u64;
 use std::num::wrapping_sub_u64;
@@ -47,7 +47,7 @@ fn rising_a(n: u64, a: usize, b: usize, scratch: &mut [u64]) -> u64
     wrapping_sub_u64(scratch[rows::place_of(b) + a], above)
 }
 
-// The words before, along a path whose last point is not counted: b rises as often as it has bits.
+// The words before, along a path whose last point is not counted: b rises as often as it has ones.
 fn walk_back(n: u64, path: u64, b: usize, scratch: &mut [u64]) -> u64
     requires { ⌜ BackAsked n path b (now scratch) ⌝ }
     ensures { λ r. ⌜ ((w : Word) → List·Memᴰ w (listOf n) → 0 < length w → path ≡ pathTo w (length w - 1)

@@ -1,8 +1,7 @@
 // From a position to its word, by a walk over the rows of counts along the letters of the word.
 //
-// The walk goes up, against the order in which the rows are filled, and only the rows up to 6 are kept. So it goes in rounds of six
-// rows. After a rise of b the words that may follow are the list of the rest itself, and a new round starts with the rest as the
-// number.
+// The walk goes up, against the order in which the rows are filled, and six rows are kept. So it goes in rounds of six rows. After a
+// rise of b the words that may follow are the list of the rest itself, and a new round starts with the rest as the number.
 use super::rows;
 ghost use Prim.Native.Nat.{_+_, _<_};
 ghost use Rattle.lent.specs.Lent.{OnlyFirst, scratchSize};

@@ -9,14 +9,10 @@ mod six_lines;
 
 use std::num::wrapping_add_u64;
 ghost use mathlib.Core.Path.{_≡_};
-ghost use mathlib.Core.List.{[], List·Memᴰ};
-ghost use Prim.Native.Nat.{_+_};
-ghost use Rattle.chains.specs.Words.{Word};
-ghost use Rattle.chains.specs.Listing.{listOf, countBefore};
+ghost use mathlib.Core.List.{[]};
 ghost use Rattle.lent.specs.Lent.{scratchSize, littleScratch, scratchLeft, filled};
-ghost use Rattle.words.specs.Packed.{bits, rise};
 ghost use Rattle.counting.specs.Table.{CountRows};
-ghost use Rattle.counting.specs.Ranked.{beforeOf, listedAt, lentList};
+ghost use Rattle.counting.specs.Ranked.{PositionTold, listedAt, lentList, NextTold};
 ghost use Rattle.counting.specs.PlainCount.{plainOf};
 ghost use Rattle.counting.specs.TableCount.{countedOf};
 
@@ -26,8 +22,9 @@ pub enum Counted {
     Refused(u8),
 }
 
-// A word of the list of n in two numbers, a bit a letter, the lowest for the first: whether the letter is 2 or 3, where b rises, and
-// whether it is 1 or 3, a part; with its position. Or that the list has ended, or the number of the refusal.
+// A word of the list of n in two numbers, with its position; or that the list has ended; or the number of the refusal. Each letter has
+// a bit in either number, the first letter the lowest. A bit of `rises` is 1 where the letter is 2 or 3, a bit of `marks` where it is
+// 1 or 3.
 pub enum Listed {
     Word {
         position: u64,
@@ -63,11 +60,11 @@ pub fn table_count(n: u64, scratch: &mut [u64]) -> Counted
     Counted::Count(count)
 }
 
-// How many words of the list of n stand before one of its words, which is its position. `rises` says where b rises in the word, a bit
-// a letter, the lowest for the first. Where b rises so in no word of the list, some number is told. Refusal 1 with too small a
-// scratch, which is left as by the table count.
+// The position of a word in the list of n: how many words stand before it. `rises` says where b rises in the word, a bit a letter,
+// the lowest for the first. Where b rises so in no word of the list, some number is told. A scratch that is too small is refused
+// with 1. The scratch is left as the table count leaves it.
 pub fn position_of(n: u64, rises: u64, scratch: &mut [u64]) -> Counted
-    ensures { λ r. ⌜ ((w : Word) → List·Memᴰ w (listOf n) → rises ≡ bits rise w → r ≡ beforeOf n w (now (scratch .entry))) ⌝ }
+    ensures { λ r. ⌜ PositionTold n rises (now (scratch .entry)) r ⌝ }
     ensures { λ _. ⌜ now (scratch .exit) ≡ scratchLeft (littleScratch (now (scratch .entry))) (now (scratch .entry)) ⌝ }
 {
     if scratch.len() < lent::SCRATCH {
@@ -78,7 +75,7 @@ pub fn position_of(n: u64, rises: u64, scratch: &mut [u64]) -> Counted
     Counted::Count(position)
 }
 
-// The word at the position i of the list of n, whose rows stand in the scratch, which is zeroed.
+// The word at the position i of the list of n. The rows of n stand in the scratch; in the end it is zeroed.
 fn listed_at(n: u64, i: u64, scratch: &mut [u64]) -> Listed
     requires { ⌜ CountRows n 0 (now scratch) ⌝ }
     ensures { λ r. ⌜ r ≡ listedAt n i ⌝ }
@@ -98,7 +95,8 @@ fn listed_at(n: u64, i: u64, scratch: &mut [u64]) -> Listed
     }
 }
 
-// The word at the position i of the list of n. Refusal 1 with too small a scratch, which is left as by the table count.
+// The word at the position i of the list of n. A scratch that is too small is refused with 1. The scratch is left as the table count
+// leaves it.
 pub fn word_at(n: u64, i: u64, scratch: &mut [u64]) -> Listed
     ensures { λ r. ⌜ r ≡ lentList (now (scratch .entry)) (listedAt n i) ⌝ }
     ensures { λ _. ⌜ now (scratch .exit) ≡ scratchLeft (littleScratch (now (scratch .entry))) (now (scratch .entry)) ⌝ }
@@ -112,8 +110,7 @@ pub fn word_at(n: u64, i: u64, scratch: &mut [u64]) -> Listed
 
 // The word after a word of the list of n, told by where b rises in it (`position_of`). The rows are filled once for both.
 pub fn word_after(n: u64, rises: u64, scratch: &mut [u64]) -> Listed
-    ensures { λ r. ⌜ ((w : Word) → List·Memᴰ w (listOf n) → rises ≡ bits rise w
-        → r ≡ lentList (now (scratch .entry)) (listedAt n (countBefore w (listOf n) + 1))) ⌝ }
+    ensures { λ r. ⌜ NextTold n rises (now (scratch .entry)) r ⌝ }
     ensures { λ _. ⌜ now (scratch .exit) ≡ scratchLeft (littleScratch (now (scratch .entry))) (now (scratch .entry)) ⌝ }
 {
     if scratch.len() < lent::SCRATCH {

@@ -26,7 +26,7 @@ pub fn serve_refusal(number: u8, scratch: &mut [u64], out: &mut [u8]) -> Replied
     ensures { λ r. ⌜ Handled (refusedAs number) r
         (now (scratch .entry)) (now (scratch .exit)) (now (out .entry)) (now (out .exit)) ⌝ }
 {
-    lent::clear_u64(&mut scratch[0..lent::SCRATCH]);
+    lent::clear_scratch(scratch);
     tell::tell_refusal(out, number)
 }
 
@@ -196,7 +196,7 @@ pub fn serve_run(line: &[u8], scratch: &mut [u64], out: &mut [u8]) -> Replied
         (now (scratch .entry)) (now (scratch .exit)) (now (out .entry)) (now (out .exit)) ⌝ }
 {
     let replied = tell_run(line, out);
-    lent::clear_u64(&mut scratch[0..lent::SCRATCH]);
+    lent::clear_scratch(scratch);
     replied
 }
 

@@ -74,6 +74,15 @@ used-none = record { same = refl; later = refl }
 pub used-on : {size : ℕ} {entry between l : List ℕ} → OnlyFirst size entry between → OnlyFirst size between l → OnlyFirst size entry l
 used-on f g = record { same = g .same ∙ f .same; later = g .later ∙ f .later }
 
+-- So it is where the first were zeroed.
+pub used-filled : (size : ℕ) (entry : List ℕ) → size ≤ length entry → OnlyFirst size entry (filled size [] entry)
+unfolding filled
+used-filled size entry h =
+    record {
+      later = drop-at (zeros (size - 0)) (drop size entry) size (omega (arith, length-zeros (size - 0)));
+      same = length-filled size [] entry (omega arith) h;
+    }
+
 -- Zeroed, it is what zeroing it at entry would leave.
 pub used-zeroed : {size : ℕ} {entry l : List ℕ} → OnlyFirst size entry l → filled size [] l ≡ filled size [] entry
 unfolding filled

@@ -27,8 +27,8 @@ use Rattle.words.specs.Packed.{bits, rise, mark, packedOf, packedLetters, packe
 use Rattle.words.specs.PackedLaws.{PackedFrom, packed-refused, LettersPacked, letters-refused, packed-chain}
 use Rattle.words.specs.declared.Packed.the-variants as packed
 use Rattle.counting.specs.Forward.{wordAt}
-use Rattle.counting.specs.Ranked.{beforeOf, listedAt}
-use Rattle.counting.specs.RankedLaws.{before-served, listed-past, listed-there}
+use Rattle.counting.specs.Ranked.{listedAt}
+use Rattle.counting.specs.RankedLaws.{listed-past, listed-there}
 use Rattle.counting.specs.declared.Counted.{Counted}
 use Rattle.counting.specs.declared.Counted.the-variants as counted
 use Rattle.counting.specs.declared.Listed.the-variants as listed
@@ -135,13 +135,13 @@ pub refused-given : (o : Outcome) (r : ℕ) (places : List ℕ) → o ≡ refuse
 unfolding answerOf placesLeft
 refused-given o r places e = rw e (record { answer = refl; left = refl })
 
--- What `position_of` tells where there is room, r being its answer.
-module _ (n : ℕ) (w : Word) (scratch : List ℕ) {r : Counted} (h : scratchSize ≤ length scratch) (e : r ≡ beforeOf n w scratch) where
+-- What `position_of` tells of a word of the list, r being its answer.
+module _ (n : ℕ) (w : Word) {r : Counted} (e : r ≡ counted.Count (countBefore w (listOf n))) where
   pub told-position : {p : ℕ} → r ≡ counted.Count p → p ≡ countBefore w (listOf n)
-  told-position f = cc (f, e, before-served scratch h n w)
+  told-position f = cc (f, e)
 
   pub told-refusal : {k : ℕ} → r ≡ counted.Refused k → ⊥
-  told-refusal f = let z : _≡_ {A = ℕ} 0 1 = cc (f, e, before-served scratch h n w) in omega arith
+  told-refusal f = let z : _≡_ {A = ℕ} 0 1 = cc (f, e) in omega arith
 
 -- What `word_at` and `word_after` tell.
 module _ (n i : ℕ) where

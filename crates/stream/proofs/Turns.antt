@@ -9,8 +9,8 @@ use native.Mathlib.Numerals.{add-one}
 use native.Mathlib.Omega.{arith}
 use lib.ListN.{length, take, drop, getD, length-append, length-drop}
 use lib.Seq.{length-take-le, take-all, take-add, take-suc, take-at, drop-at}
-use Rattle.lent.specs.LentLaws.{length-zeros, length-filled}
-use Rattle.lent.specs.Lent.{filled, zeros, OnlyFirst, scratchSize}
+use Rattle.lent.specs.LentLaws.{used-on, used-filled}
+use Rattle.lent.specs.Lent.{filled, OnlyFirst, scratchSize}
 use Rattle.lines.specs.Stream.{finished, unfinished, repliesTo}
 use Rattle.lines.specs.StreamLaws.{finished-append, finished-stretch, finished-line, replies-append, take-first}
 use Rattle.lines.specs.StreamLaws.{unfinished-append, unfinished-stretch, unfinished-line}
@@ -32,17 +32,6 @@ up-to-end block at end h l e =
 -- The rest of a block.
 rest-of : (block : List ℕ) (at : ℕ) → piece at (length block) block ≡ drop at block
 rest-of block at = take-all (length block - at) (drop at block) (omega (arith, length-drop at block))
-
-pub later-filled : (size : ℕ) (entry : List ℕ) → size ≤ length entry → OnlyFirst size entry (filled size [] entry)
-unfolding filled
-later-filled size entry h =
-    record {
-      later = drop-at (zeros (size - 0)) (drop size entry) size (omega (arith, length-zeros (size - 0)));
-      same = length-filled size [] entry (omega arith) h;
-    }
-
-pub later-twice : (size : ℕ) (a b c : List ℕ) → OnlyFirst size a b → OnlyFirst size b c → OnlyFirst size a c
-later-twice size a b c x y = record { later = y .later ∙ x .later; same = y .same ∙ x .same }
 
 -- ---- the invariant
 
@@ -140,11 +129,10 @@ module _ {line block keptEntry scratchEntry outEntry kept scratch out : List ℕ
           first = refl;
           count = refl;
           most = omega arith;
-          rest = later-twice 515 keptEntry kept keptExit (turn .keeps .rest) l;
+          rest = used-on (turn .keeps .rest) l;
         });
         rest =
-            later-twice scratchSize scratchEntry scratch scratchExit (turn .rest)
-            (rw z (later-filled scratchSize scratch (omega arith)));
+            used-on (turn .rest) (rw z (used-filled scratchSize scratch (omega arith)));
       }
 
   -- ---- the ends
@@ -188,5 +176,5 @@ module _ {line block keptEntry scratchEntry outEntry kept scratch out : List ℕ
           first = k .first ∙ same;
           count = k .count ∙ ap length same;
           most = k .most;
-          rest = later-twice 515 keptEntry kept keptExit (turn .keeps .rest) (k .rest);
+          rest = used-on (turn .keeps .rest) (k .rest);
         })

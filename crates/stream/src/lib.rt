@@ -222,7 +222,7 @@ pub fn answer_block(
     }
     let gone = answer_lines(block, kept, k, scratch, out);
     clear_behind(kept, gone.kept);
-    lent::clear_u64(&mut scratch[0..lent::SCRATCH]);
+    lent::clear_scratch(scratch);
     Fed::Taken {
         used: gone.used,
         kept: gone.kept,
@@ -245,7 +245,7 @@ pub fn answer_end(kept: &[u8], k: usize, scratch: &mut [u64], out: &mut [u8]) ->
         return Ended::Refused(1);
     }
     if k == 0 {
-        lent::clear_u64(&mut scratch[0..lent::SCRATCH]);
+        lent::clear_scratch(scratch);
         return Ended::Written(0);
     }
     Ended::Written(answer_line(&kept[0..k], scratch, out, 0))

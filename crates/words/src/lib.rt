@@ -44,8 +44,9 @@ pub enum Written {
     Refused(u8),
 }
 
-// A word in two numbers, a bit a letter, the lowest for the first: whether the letter is 2 or 3, where b rises, and whether it is 1
-// or 3, a part. With them the number n that the parts sum to, and how many letters there are. Or document 01's number of a refusal.
+// A word in two numbers, with the number n that its parts sum to and how many letters it has; or document 01's number of a refusal.
+// Each letter has a bit in either number, the first letter the lowest. A bit of `rises` is 1 where the letter is 2 or 3, a bit of
+// `marks` where it is 1 or 3.
 pub enum Packed {
     Word {
         n: u64,

@@ -1,6 +1,6 @@
 // The numbers of the parts that two numbers hold, in places that are lent.
 //
-// The highest mark is that of the largest part, and the marks are taken from there down: a turn a part, and none for the other
+// The highest mark is that of the largest part, and the marks are taken from there down: a step a part, and none for the other
 // letters. The letters before a part's own tell its exponents by how many ones and zeros they have in `rises`.
 ghost use mathlib.Core.Path.{_≡_};
 ghost use mathlib.Core.List.{_++_, map};

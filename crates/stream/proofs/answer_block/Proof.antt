@@ -5,10 +5,9 @@ use mathlib.Core.List.{List}
 use Prim.Native.Nat.{ℕ, _≤_}
 use native.Mathlib.Omega.{arith}
 use borrow.Author.Needs.{needs}
-use borrow.Rule.Slice.PartMut.{midOf, putMid}
 use lib.ListN.{length, take}
-use Rattle.lent.specs.LentLaws.{cleared}
-use Rattle.lent.specs.Lent.{zeros, filled, OnlyFirst, scratchSize, scratchLeft}
+use Rattle.lent.specs.LentLaws.{used-left}
+use Rattle.lent.specs.Lent.{filled, OnlyFirst, scratchSize, littleScratch, scratchLeft}
 use Rattle.lines.specs.Stream.{finished, unfinished}
 use Rattle.stream.specs.Answers.{Goes, usedOf, fedOf, keptLeft, repliesLeft}
 use Rattle.stream.specs.AnswerLaws.{lent-enough}
@@ -37,22 +36,22 @@ too-little : (b : Bool) (line block kept scratch out : List ℕ) → b ≡ true
 unfolding usedOf fedOf keptLeft repliesLeft scratchLeft
 too-little b line block kept scratch out e = rw e (refl, ((λ f. absurd (true≢false f)), (refl, (refl, refl))))
 
-done : (b : Bool) (line block keptEntry kept keptExit scratchEntry scratch part outEntry out : List ℕ) (used left written : ℕ)
+done : (b : Bool) (line block keptEntry kept keptExit scratchEntry scratch scratchExit outEntry out : List ℕ) (used left written : ℕ)
     → b ≡ false → scratchSize ≤ length scratchEntry → Goes line block outEntry used
     → Wrote (finished line (take used block)) outEntry out written
     → Keeps (unfinished line (take used block)) keptEntry kept left → OnlyFirst scratchSize scratchEntry scratch
-    → keptExit ≡ filled 515 (take left kept) kept → part ≡ zeros (length (midOf 0 scratchSize scratch))
-    → Contract b line block keptEntry keptExit scratchEntry (putMid 0 scratchSize scratch part) outEntry out
+    → keptExit ≡ filled 515 (take left kept) kept → scratchExit ≡ scratchLeft (littleScratch scratch) scratch
+    → Contract b line block keptEntry keptExit scratchEntry scratchExit outEntry out
     (fed.Taken used left written)
 unfolding usedOf fedOf keptLeft repliesLeft scratchLeft
-done b line block keptEntry kept keptExit scratchEntry scratch part outEntry out used left written e room g w h l f z =
+done b line block keptEntry kept keptExit scratchEntry scratch scratchExit outEntry out used left written e room g w h l f z =
     rw (e, w .count, h .count) (
       refl,
       (
         (λ t. g),
         (
           f ∙ kept-alone _ keptEntry kept left h,
-          (w .replies, cleared scratchSize scratchEntry scratch part (omega arith) (l .later) z),
+          (w .replies, z ∙ used-left room l),
         ),
       ),
     )
@@ -71,12 +70,6 @@ clear-behind-requires c κs =
     let e = lent-enough _ _ _ _ (sym (i .before .is-little .ensures) ∙ i .if1 .left) in
     search needs
 
-part-clear-u64-end : tie.Need-part-clear-u64-end
-part-clear-u64-end c =
-    let i = c .before .before .before .before .before .before .before .before .before .before .before .before .before .before in
-    let e = lent-enough _ _ _ _ (sym (i .before .is-little .ensures) ∙ i .if1 .left) in
-    search needs
-
 returns-2 : tie.Need-returns-2
 returns-2 c =
     let a = c .before .before .before .before .before .before .before .before .before .before .before .before .before .before in
@@ -85,7 +78,7 @@ returns-2 c =
     let l = a .answer-lines .ensures in
     done _ _ _ _ _ _ _ _ _ _ _ _ _ _ n (lent-enough _ _ _ _ n .memory .numbers) (l .0) (l .1 .0) (l .1 .1 .0) (l .1 .1 .1)
     (c .before .before .before .before .before .before .clear-behind .ensures)
-    (c .before .before .clear-u64 .ensures)
+    (c .before .before .clear-scratch .ensures)
 
 pub answer-block-spec : {M : Type 1} → statement M
 answer-block-spec =
@@ -98,9 +91,6 @@ answer-block-spec =
     returns
     answer-lines-requires
     clear-behind-requires
-    (λ c. search needs)
-    (λ c. search needs)
-    part-clear-u64-end
     (λ c κs. search needs)
     (λ c. search needs)
     (λ c. search needs)

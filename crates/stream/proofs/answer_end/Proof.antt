@@ -6,11 +6,10 @@ use Prim.Native.Nat.{ℕ, _-_, _≤_, _<_}
 use native.Mathlib.Nat.{sub-zero}
 use native.Mathlib.Omega.{arith}
 use borrow.Author.Needs.{needs}
-use borrow.Rule.Slice.PartMut.{midOf, putMid}
 use lib.ListN.{length, take}
 use lib.Seq.{length-take-le}
-use Rattle.lent.specs.LentLaws.{cleared}
-use Rattle.lent.specs.Lent.{zeros, filled, scratchSize, scratchLeft}
+use Rattle.lent.specs.LentLaws.{served-zeroed}
+use Rattle.lent.specs.Lent.{filled, scratchSize, littleScratch, scratchLeft}
 use Rattle.lines.specs.Stream.{lastLine}
 use Rattle.frames.specs.Replies.{replyOf}
 use Rattle.stream.specs.Answers.{repliesLeft, endedOf}
@@ -42,12 +41,12 @@ module _ (b : Bool) (kept : List ℕ) (k : ℕ) (scratch out : List ℕ) (enough
   unfolding endedOf repliesLeft scratchLeft
   written scratchExit outExit n w z = rw (enough, w .count) (refl, (w .replies, z))
 
-  no-line : (part : List ℕ) → scratchSize ≤ length scratch → k ≡ 0 → part ≡ zeros (length (midOf 0 scratchSize scratch))
-      → Contract b (take k kept) scratch (putMid 0 scratchSize scratch part) out out (ended.Written 0)
+  no-line : (scratchExit : List ℕ) → scratchSize ≤ length scratch → k ≡ 0 → scratchExit ≡ scratchLeft (littleScratch scratch) scratch
+      → Contract b (take k kept) scratch scratchExit out out (ended.Written 0)
   unfolding lastLine
-  no-line part room h z =
+  no-line scratchExit room h z =
       let w : Wrote (lastLine (take k kept)) out out 0 = rw h (none-written out) in
-      written _ out 0 w (cleared scratchSize scratch scratch part room refl z)
+      written scratchExit out 0 w (z ∙ served-zeroed scratch room)
 
   one-line : (scratchExit outExit : List ℕ) (n : ℕ) → k ≤ length kept → (k ≡ 0 → ⊥)
       → Adds (replyOf (take (k - 0) kept)) 0 out outExit n
@@ -62,16 +61,11 @@ module _ (b : Bool) (kept : List ℕ) (k : ℕ) (scratch out : List ℕ) (enough
 returns : tie.Need-returns
 returns c = too-little _ _ _ _ (sym (c .before .is-little .ensures) ∙ c .if1 .taken)
 
-part-clear-u64-end : tie.Need-part-clear-u64-end
-part-clear-u64-end c =
-    let e = lent-enough _ _ _ _ (sym (c .before .before .is-little .ensures) ∙ c .before .if1 .left) in
-    search needs
-
 returns-2 : tie.Need-returns-2
 returns-2 c =
     let i = c .before .before .before .before in
     let n = sym (i .before .before .is-little .ensures) ∙ i .before .if1 .left in
-    no-line _ _ _ _ _ n _ (lent-enough _ _ _ _ n .memory .numbers) (i .if2 .taken) (c .before .before .clear-u64 .ensures)
+    no-line _ _ _ _ _ n _ (lent-enough _ _ _ _ n .memory .numbers) (i .if2 .taken) (c .before .before .clear-scratch .ensures)
 
 part-answer-line-end : tie.Need-part-answer-line-end
 part-answer-line-end c =
@@ -100,9 +94,6 @@ answer-end-spec =
     (λ c. search needs)
     (λ c. search needs)
     returns
-    (λ c. search needs)
-    (λ c. search needs)
-    part-clear-u64-end
     (λ c κs. search needs)
     (λ c. search needs)
     (λ c. search needs)

@@ -2,7 +2,7 @@
 use mathlib.Core.Path.{sym, _∙_}
 use borrow.Author.Needs.{needs}
 use Rattle.lent.specs.LentLaws.{served-zeroed}
-use Rattle.counting.specs.RankedLaws.{list-served}
+use Rattle.counting.specs.RankedLaws.{told-after}
 use Rattle.ranking.proofs.Answers.{told-word, told-past, told-no-refusal, refused-given, standing-given}
 use Rattle.ranking.proofs.giving.give_after.Statement.{statement}
 use Rattle.ranking.proofs.giving.give_after.Tie as tie
@@ -13,7 +13,7 @@ returns c =
     let k = g .before .before .before in
     let p = k .before .before .before .before in
     let h = p .before .before .before .before .pre .0 in (
-      (λ w m e. let t = told-word _ _ (sym (list-served _ h _) ∙ sym (p .word-after .ensures .0 w m e) ∙ k .position .given .1) in
+      (λ w m e. let t = told-word _ _ (sym (told-after h w m e (p .word-after .ensures .0)) ∙ k .position .given .1) in
           standing-given _ _ 11 t (g .give-parts .ensures)),
       p .word-after .ensures .1 ∙ served-zeroed _ h,
     )
@@ -22,7 +22,7 @@ returns-2 : tie.Need-returns-2
 returns-2 c =
     let p = c .before .before .before .before in
     let h = p .before .before .before .before .pre .0 in (
-      (λ w m e. refused-given _ _ _ (told-past _ _ 11 (sym (list-served _ h _) ∙ sym (p .word-after .ensures .0 w m e) ∙ c .enum-told .given .1))),
+      (λ w m e. refused-given _ _ _ (told-past _ _ 11 (sym (told-after h w m e (p .word-after .ensures .0)) ∙ c .enum-told .given .1))),
       p .word-after .ensures .1 ∙ served-zeroed _ h,
     )
 
@@ -31,7 +31,7 @@ returns-3 c =
     let k = c .before in
     let p = k .before .before .before .before in
     let h = p .before .before .before .before .pre .0 in (
-      (λ w m e. absurd (told-no-refusal _ _ (sym (list-served _ h _) ∙ sym (p .word-after .ensures .0 w m e) ∙ k .number .given .1))),
+      (λ w m e. absurd (told-no-refusal _ _ (sym (told-after h w m e (p .word-after .ensures .0)) ∙ k .number .given .1))),
       p .word-after .ensures .1 ∙ served-zeroed _ h,
     )
 

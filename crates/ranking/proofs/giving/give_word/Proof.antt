@@ -2,6 +2,7 @@
 use mathlib.Core.Path.{_∙_}
 use borrow.Author.Needs.{needs}
 use Rattle.lent.specs.LentLaws.{served-zeroed}
+use Rattle.counting.specs.RankedLaws.{told-before}
 use Rattle.ranking.proofs.Answers.{told-position, told-refusal, held-at}
 use Rattle.ranking.proofs.giving.give_word.Statement.{statement}
 use Rattle.ranking.proofs.giving.give_word.Tie as tie
@@ -11,7 +12,7 @@ returns c =
     let p = c .before .before .before .before in
     let a = p .before .before .before .before .args in
     let h = p .before .before .before .before .pre .0 in (
-      (λ w t. absurd (told-refusal (a .n) w (a .scratch .now) h (p .position-of .ensures .0 w (t .member) (t .rising)) (c .enum-told .given .1))),
+      (λ w t. absurd (told-refusal (a .n) w (told-before h w (t .member) (t .rising) (p .position-of .ensures .0)) (c .enum-told .given .1))),
       p .position-of .ensures .1 ∙ served-zeroed _ h,
     )
 
@@ -22,7 +23,7 @@ returns-2 c =
     let p = k .before .before .before .before in
     let a = p .before .before .before .before .args in
     let h = p .before .before .before .before .pre .0 in (
-      (λ w t. let e = told-position (a .n) w (a .scratch .now) h (p .position-of .ensures .0 w (t .member) (t .rising)) (k .position .given .1) in
+      (λ w t. let e = told-position (a .n) w (told-before h w (t .member) (t .rising) (p .position-of .ensures .0)) (k .position .given .1) in
           rw (← e) (g .give-parts .ensures (rw e (held-at _ (t .member) t)))),
       p .position-of .ensures .1 ∙ served-zeroed _ h,
     )
