@@ -166,7 +166,8 @@ pub struct Asked {
     pub b: usize,
     pub d: u64,
     pub t: u64,
-    pub s: u64,
+    pub s2: u64,
+    pub s3: u64,
 }
 
 fn fill_keys(ts: &Tables, q: &Asked, t: &mut Table) {
@@ -184,7 +185,7 @@ fn fill_keys(ts: &Tables, q: &Asked, t: &mut Table) {
                     if a < q.a {
                         after_a = t[i + 3] + q.d;
                         if m % 2 == 1 {
-                            after_a += PART + q.s;
+                            after_a += PART + q.s2;
                         }
                         free = after_a;
                     }
@@ -192,7 +193,7 @@ fn fill_keys(ts: &Tables, q: &Asked, t: &mut Table) {
                         match m % 3 {
                             0 => free = free.min(t[i + 128] + q.t),
                             1 => {
-                                let k = t[i + 128] + q.t + PART + q.s;
+                                let k = t[i + 128] + q.t + PART + q.s3;
                                 free = free.min(k);
                                 after_a = after_a.min(k);
                             }
@@ -217,7 +218,7 @@ fn best_word(ts: &Tables, q: &Asked, t: &Table) -> Vec<u8> {
             return word;
         }
         let here = t[cell(a, b, f)];
-        let part = if m % 2 == 1 { PART + q.s } else { 0 };
+        let part = if m % 2 == 1 { PART + q.s2 } else { 0 };
         if a < q.a && t[cell(a + 1, b, 1)] + q.d + part == here {
             word.push((m % 2) as u8);
             a += 1;
@@ -390,7 +391,7 @@ fn answer(ts: &Tables, line: &[u8], t: &mut Table) -> Result<String, u8> {
     let count_byte = if bytes.len() > at { bytes[at] as usize } else { 0 };
     let length = match bytes[0] {
         1 => 9,
-        2 => 18,
+        2 => 20,
         3 => 17,
         4 => 2 + 2 * count_byte,
         5 | 6 => 2 + count_byte,
@@ -411,7 +412,8 @@ fn answer(ts: &Tables, line: &[u8], t: &mut Table) -> Result<String, u8> {
                 b: bytes[11] as usize,
                 d: number(&bytes[12..14]),
                 t: number(&bytes[14..16]),
-                s: number(&bytes[16..18]),
+                s2: number(&bytes[16..18]),
+                s3: number(&bytes[18..20]),
             };
             best(ts, &q, t).map(|c| chain_reply(&c, true))
         }

@@ -59,7 +59,16 @@ fn main() {
             plain::count(&ts, n, &mut t)
         } else {
             x = next(x);
-            let q = plain::Asked { n, parts: 64, a: 63, b: 40, d: x % 65536, t: (x >> 16) % 65536, s: (x >> 32) % 65536 };
+            let q = plain::Asked {
+                n,
+                parts: 64,
+                a: 63,
+                b: 40,
+                d: x % 65536,
+                t: (x >> 16) % 65536,
+                s2: (x >> 32) % 65536,
+                s3: x >> 48,
+            };
             plain::best(&ts, &q, &mut t).map_or(0, |c| digest(&c))
         };
         sum = sum.wrapping_add(answer);

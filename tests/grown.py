@@ -42,7 +42,7 @@ def best_word(n, most_a, most_b, prices):
     """(parts, price, word, points from the smallest) of the best chain with doublings and triplings in the limits, or None."""
     if n == 0:
         return 0, 0, "", ()
-    d, t, s = prices
+    d, t, s2, s3 = prices
     known = {}
 
     def from_part(m, a, b):
@@ -59,6 +59,8 @@ def best_word(n, most_a, most_b, prices):
                 rest = from_part(left, a + x, b + y)
                 if rest is not None:
                     k, p, w, points = rest
+                    # a part from which b rises has letter 3
+                    s = s3 if y else s2
                     found = (k + part, p + d * x + t * y + s * part, letters + w, (((a, b),) if part else ()) + points)
                     if least is None or found[:3] < least[:3]:
                         least = found

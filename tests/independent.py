@@ -8,7 +8,8 @@
 Small numbers: all chains from the definition, by search over divisors from the largest part down (chains_up_to, chains_of); their words
 by walking the points; their order by sorting text. Any 64-bit number: the engine, tests/independent_engine.rs, which takes parts from the
 largest down by what n leaves modulo the part taken last. test_best finds its best chains by growth from the smallest part too
-(tests/grown.py). At every run check_003 holds the engine to the search, on whole lists.
+(tests/grown.py). At every run check_003 holds the engine to the search, on whole lists, and check_one_price holds the replies to those that
+were stored when an addition had one price.
 
 Not shared with the crates:
 - any code;
@@ -20,12 +21,14 @@ Not shared with the crates:
 - the run of a chain along its path, by doubling, tripling and adding modulo m: here n × x modulo m, in integers of any size.
 
 Shared with the crates:
-- the definitions of document 01 and 003, and the order of the refusals;
+- the definitions of documents 01 and 02 and of 003, and the order of the refusals;
 - that what follows a part sums to less than the part;
 - that a best chain is best up to each of its points, so that one chain a point is enough;
 - that the letters between two parts are those of a run of b and a run of a. The engine writes them so, as crates/words does; word_of below
   walks point by point, and the engine's `position` knows no word that the two write differently;
-- that a price may be added up letter by letter. The engine does, as crates/best does; `best` below holds the sum to document 01's price;
+- that a price may be added up letter by letter. The engine does, as crates/best does. `best` below holds the sum to price_of, which takes a
+  and b from the largest part and counts letters 1 and 3 in the word that word_of walks. tests/grown.py needs no letter to tell the price of
+  an addition: it is s3 where b rises to the next part, and s2 where only a does;
 - that a chain at a position is found from its smallest part up: here part by part, in crates/ranking letter by letter;
 - that K is tested only on the best chain within A and B, because fewest parts come first: `whole.filter` in the engine and the last line of
   tests/grown.py do so, as crates/best/src/choosing.rt does. listed_best below tests K on every chain of a list.
@@ -43,11 +46,13 @@ import tempfile
 
 import grown
 
+HERE = os.path.dirname(os.path.abspath(__file__))
 LIMIT = 2**64
 SCRATCH = 512  # numbers that a scratch must have, and that are zero on return
 SIZES = (SCRATCH, 513, 5248)  # scratches that the test programs lend: each is served
 SHORT = 511  # one that is refused
 LONGEST = 120  # seconds that the engine may take for an answer
+FREE = (255, 255, 255)  # limits that exclude nothing
 POINTS = [(a, b) for a in range(64) for b in range(41) if 2**a * 3**b < LIMIT]
 VALUE = {p: 2 ** p[0] * 3 ** p[1] for p in POINTS}
 TABLE = sorted(POINTS, key=lambda p: VALUE[p])
@@ -135,7 +140,7 @@ def sum_of(chain):
 @functools.cache
 def engine():
     """The engine, built and started at the first question. Its file may go once it runs. It is ended when this program ends."""
-    source = os.path.join(os.path.dirname(os.path.abspath(__file__)), "independent_engine.rs")
+    source = os.path.join(HERE, "independent_engine.rs")
     with tempfile.TemporaryDirectory() as folder:
         program = os.path.join(folder, "engine")
         subprocess.run(["rustc", "--edition", "2021", "-O", "-o", program, source], check=True, timeout=600)
@@ -171,20 +176,29 @@ def word_at(n, position):
     return ask("at", n, position)[0]
 
 
-def price_of(chain, d, t, s):
-    """Document 01's price."""
-    return d * chain[0][0] + t * chain[0][1] + s * (len(chain) - 1) if chain else 0
+def price_of(chain, d, t, s2, s3):
+    """Document 01's price with T-04's two prices of an addition: s2 at letter 1, s3 at letter 3. The last letter is no addition."""
+    letters = word_of(chain)[:-1]
+    return d * chain[0][0] + t * chain[0][1] + s2 * letters.count("1") + s3 * letters.count("3") if chain else 0
 
 
-def best(n, parts, most_a, most_b, d, t, s):
+def best(n, parts, most_a, most_b, d, t, s2, s3):
     """The best chain's (parts, price, word), or None."""
-    found = ask("best", n, parts, most_a, most_b, d, t, s)
+    found = ask("best", n, parts, most_a, most_b, d, t, s2, s3)
     if found is None:
         return None
     k, price, word = int(found[0]), int(found[1]), found[2]
     chain = chain_of(word)
-    assert sum_of(chain) == n and len(chain) == k and price_of(chain, d, t, s) == price
+    assert sum_of(chain) == n and len(chain) == k and price_of(chain, d, t, s2, s3) == price
     return k, price, word
+
+
+def pulled_apart(n, limits, prices):
+    """Whether another chain is the best where s2 and s3 are exchanged."""
+    d, t, s2, s3 = prices
+    one, other = best(n, *limits, d, t, s2, s3), best(n, *limits, d, t, s3, s2)
+    assert (one is None) == (other is None)
+    return one is not None and one[2] != other[2]
 
 
 def good(word):
@@ -211,7 +225,8 @@ def maxima(counts):
 
 BY_SEARCH = [65535, 65536, 10**6, 3**13 + 1, 2**20 * 3 - 1, 2**12 * 3**7]
 CHECKED_LIMITS = [(64, 63, 40), (255, 255, 255), (2, 63, 40), (3, 63, 40), (64, 3, 2), (64, 63, 0), (64, 0, 40), (64, 5, 3), (0, 0, 0)]
-CHECKED_PRICES = [(4, 7, 9), (0, 0, 0), (1, 0, 5), (9, 1, 1), (65535, 65535, 65535)]
+CHECKED_PRICES = [(4, 7, 9, 9), (0, 0, 0, 0), (65535, 65535, 65535, 65535), (1, 0, 5, 2), (1, 0, 2, 5), (9, 1, 1, 4), (9, 1, 4, 1)]
+CHECKED_PRICES += [(0, 0, 65535, 0), (0, 0, 0, 65535)]
 
 
 def check_003():
@@ -230,6 +245,8 @@ def check_003():
     assert count((2**36 * 3**19 - 27) // 5) == 16152526311 and count(10**6) == 497 and count(3 * 2**62 - 1) == 1
     for n, entries in enumerate(lists):
         check_list(n, entries)
+    check_apart(lists)
+    check_one_price()
     for n in BY_SEARCH:
         check_list(n, sorted((word_of(c), c) for c in chains_of(n)))
     chance = random.Random(3)
@@ -241,7 +258,7 @@ def check_003():
 def check_list(n, entries):
     """The engine's answers on a number against its whole list: the count, each position, each chain, and the best within limits.
 
-    Every chain of the list runs to the same residue, which is that of x added up n times.
+    Every chain of the list runs to the same residue, which is that of x added up n times. With s2 = s3 = s a price is that of one s.
     """
     assert count(n) == len(entries) and ask("at", n, len(entries)) is None
     for i, (word, chain) in enumerate(entries):
@@ -250,9 +267,26 @@ def check_list(n, entries):
     m, x = RUNS[n % len(RUNS)]
     assert {reply_to(run_line(m, x, numbers_of(c))) for _, c in entries} == {residue_reply(sum(itertools.repeat(x, n)) % m)}
     for i, limits in enumerate(CHECKED_LIMITS):
-        prices = CHECKED_PRICES[(n + i) % 5]
+        prices = CHECKED_PRICES[(n + i) % len(CHECKED_PRICES)]
         least = listed_best(entries, limits, prices)
         assert best(n, *limits, *prices) == (least and (least[0], least[1], word_of(least[3])))
+    for (_, chain), (d, t, s, _) in itertools.product(entries, CHECKED_PRICES):
+        a, b = chain[0] if chain else (0, 0)
+        assert price_of(chain, d, t, s, s) == d * a + t * b + s * max(len(chain) - 1, 0)
+
+
+def check_apart(lists):
+    """s2 and s3 pull to different chains, first for 10: where only s2 is paid the best is 9 + 1, and where only s3 is paid 8 + 2."""
+    only_s2, only_s3 = CHECKED_PRICES[-2:]
+    assert listed_best(lists[10], FREE, only_s2)[3] == [(0, 2), (0, 0)] and listed_best(lists[10], FREE, only_s3)[3] == [(3, 0), (1, 0)]
+    assert min(n for n in range(len(lists)) if pulled_apart(n, FREE, only_s2)) == 10
+
+
+def check_one_price():
+    """The 2,086 earlier lines of kind 02, with one price s for an addition: with s2 = s3 = s each gets its earlier reply, as it is 02."""
+    file = stored("one_price_lines")
+    assert answer(with_price_twice(file)).encode() == stored("one_price_replies")
+    assert len(set(lines_of(file))) == 2086 and {reply_to(line) for line in lines_of(file)} == {"02"}
 
 
 def check_relations(u):
@@ -343,7 +377,7 @@ def reply_to(line):
     kind = data[0]
     counted_at = 17 if kind == 7 else 1
     more = data[counted_at] if len(data) > counted_at else 0
-    lengths = {1: 9, 2: 18, 3: 17, 4: 2 + 2 * more, 5: 2 + more, 6: 2 + more, 7: 18 + 2 * more}
+    lengths = {1: 9, 2: 20, 3: 17, 4: 2 + 2 * more, 5: 2 + more, 6: 2 + more, 7: 18 + 2 * more}
     if kind not in lengths:
         return "04"
     if len(data) != lengths[kind]:
@@ -352,7 +386,7 @@ def reply_to(line):
     if kind == 1:
         return f"00{count(number(1, 8)):016X}"
     if kind == 2:
-        found = best(number(1, 8), *data[9:12], number(12, 2), number(14, 2), number(16, 2))
+        found = best(number(1, 8), *data[9:12], *(number(i, 2) for i in (12, 14, 16, 18)))
         return chain_reply(number(1, 8), chain_of(found[2]), found[1]) if found else "05"
     if kind == 3:
         n, position = number(1, 8), number(9, 8)
@@ -381,6 +415,10 @@ def hexed(*fields):
     return "".join(f"{value:0{2 * size}X}" for value, size in fields).encode()
 
 
+def best_line(n, limits, prices):
+    return hexed((2, 1), (n, 8), *((x, 1) for x in limits), *((x, 2) for x in prices))
+
+
 def word_line(kind, word):
     return hexed((kind, 1), (len(word), 1), *((int(letter), 1) for letter in word))
 
@@ -403,8 +441,8 @@ def small_file(most):
     for n in range(most + 1):
         m, x = RUNS[n % len(RUNS)]
         yield hexed((1, 1), (n, 8))
-        yield hexed((2, 1), (n, 8), (255, 1), (255, 1), (255, 1), (n % 11, 2), (n % 7, 2), (n % 5, 2))
-        yield hexed((2, 1), (n, 8), (n % 4, 1), (n % 6, 1), (n % 3, 1), (4, 2), (7, 2), (9, 2))
+        yield best_line(n, FREE, (n % 11, n % 7, n % 5, n % 3))
+        yield best_line(n, (n % 4, n % 6, n % 3), PRICES[0])
         for position in range(count(n) + 1):
             yield hexed((3, 1), (n, 8), (position, 8))
         for position in range(count(n)):
@@ -433,7 +471,7 @@ def refused_file():
         yield hexed((kind, 1), (19, 8))
         yield hexed((kind, 1), (19, 8)) + b"x"
     for kind in range(1, 8):
-        for extra in range(0, 20):
+        for extra in range(0, 22):
             yield hexed((kind, 1)) + b"00" * extra
     # a character that is none against the length of the kind, and against each kind's own refusals
     for text in (b"01" + b"0" * 10 + b"g0", b"02" + b"0" * 15 + b"G", b"03" + b"0" * 31 + b"`", b"0402FFFFFFF\x00", b"050104" + b"\r0"):
@@ -464,7 +502,7 @@ def refused_file():
         for position in (0, count(n) - 1, count(n), LIMIT - 1):
             yield hexed((3, 1), (n, 8), (position, 8))
         for limits in LIMITS + EDGE_LIMITS:
-            yield hexed((2, 1), (n, 8), *((x, 1) for x in limits), *((x, 2) for x in PRICES[n % 6]))
+            yield best_line(n, limits, PRICES[n % 6])
 
 
 TWOS = [NUMBER[a, 0] for a in range(63, -1, -1)]  # 64 parts, which sum to 2^64 - 1
@@ -514,11 +552,55 @@ def run_file():
         for at in (0, 1, 2, 17, 18, 33, 34, 35, 36, len(line) - 1):
             yield line[:at] + b"G" + line[at + 1 :]
     # the other kinds' lines as kind 07, and kind 07's as others
-    for line in (*LISTING.split(b"\n")[:5], b"02" + b"0" * 34, word_line(6, "3013")):
+    for line in (*LISTING.split(b"\n")[:5], best_line(0, (0, 0, 0), (0, 0, 1, 0)), word_line(6, "3013")):
         yield b"07" + line[2:]
     for kind in (0, 1, 2, 3, 4, 5, 6, 8, 9, 15, 23, 112, 135, 255):
         yield hexed((kind, 1)) + run_line(97, 96, [9, 0])[2:]
         yield hexed((kind, 1)) + run_line(0, 1, [1344])[2:]
+
+
+def some_limits(chance):
+    return chance.choice((FREE, (chance.randrange(22), 63, 40), (64, chance.randrange(64), chance.randrange(41))))
+
+
+def some_price(chance):
+    return chance.choice((0, 1, 65535, chance.getrandbits(16)))
+
+
+def pulling(bits, times):
+    """So many drawn numbers of at most so many bits, with limits and prices where s2 and s3 pull to different chains."""
+    chance = random.Random(bits)
+    drawn = ((chance.getrandbits(bits), some_limits(chance), [some_price(chance) for _ in range(4)]) for _ in itertools.count())
+    return itertools.islice((asked for asked in drawn if pulled_apart(*asked)), times)
+
+
+PRICED = [(n, FREE) for n in (0, 1, 10, 19, 29, 65535, 10**6, 3**40 - 1, (2**36 * 3**19 - 27) // 5, 3 * 2**62 - 1, 2**64 - 1)]
+PRICED += [(2**64 - 1, (64, 63, 0)), ((3**41 - 1) // 2, (64, 0, 40))]  # 64 parts with letters 1, and 41 with letters 3
+
+
+def price_file():
+    """Lines of kind 02 with two prices for an addition: pairs that get different chains, prices at their edges, lengths."""
+    # s2 and s3, these exchanged, and s2 twice
+    for bits in (6, 10, 16, 32, 48, 64):
+        for n, limits, (d, t, s2, s3) in pulling(bits, 20):
+            for additions in (s2, s3), (s3, s2), (s2, s2):
+                yield best_line(n, limits, (d, t, *additions))
+    for (n, limits), prices in itertools.product(PRICED, itertools.product((0, 65535), repeat=4)):
+        yield best_line(n, limits, prices)
+    yield from price_lengths()
+
+
+def price_lengths():
+    """From 18 bytes to 22, where a chain fits and where none does: the length of the kind comes before 5, and a bad character before it."""
+    for n, limits in [*EXAMPLES, (3 * 2**62 - 1, (62, 63, 40)), (3 * 2**62 - 1, (63, 63, 40))]:
+        line = best_line(n, limits, PRICES[3])
+        for text in (line[:-4], line[:-3], line[:-2], line[:-1], line, line + b"0", line + b"00", line + b"000", line + b"0000"):
+            yield text
+            yield text[:-1] + b"G"
+    # a line that fits kinds 02 and 07, and one that fitted both while an addition had one price
+    for line in (run_line(2**63 - 1, 0x403F280004000700, [9]), run_line(2**63 - 1, 0x403F280004000700, [])):
+        yield line
+        yield b"02" + line[2:]
 
 
 KINDS = (1, 1, 1, 2, 3, 3, 3, 4, 4, 4, 5, 5, 6, 6)  # as often as they are drawn
@@ -548,9 +630,8 @@ def some_lines(seed, times, kinds=KINDS_AND_RUNS):
         if kind == 1:
             return hexed((1, 1), (n, 8))
         if kind == 2:
-            limits = chance.choice(((255, 255, 255), (chance.randrange(22), 63, 40), (64, chance.randrange(64), chance.randrange(41))))
-            prices = [chance.choice((0, 1, 65535, chance.getrandbits(16))) for _ in range(3)]
-            return hexed((2, 1), (n, 8), *((x, 1) for x in limits), *((x, 2) for x in prices))
+            limits, (d, t, s2) = some_limits(chance), [some_price(chance) for _ in range(3)]
+            return best_line(n, limits, (d, t, s2, s2 if chance.randrange(5) == 0 else some_price(chance)))
         if kind == 3:
             return hexed((3, 1), (n, 8), (chance.randrange(count(n) + 2), 8))
         word = some_word()
@@ -589,15 +670,27 @@ def cased_file():
     chance = random.Random(4)
     last = [word_line(6, word_at(n, count(n) - 1)) for n in EDGES]
     runs = [*itertools.islice(run_file(), 0, None, 4), *some_lines(6, 100, [7])]
-    for line in [*some_lines(5, 400, KINDS), *refused_file(), *last, *runs]:
+    priced = itertools.islice(price_file(), 0, None, 4)
+    for line in [*some_lines(5, 400, KINDS), *refused_file(), *last, *runs, *priced]:
         if re.search(rb"[A-F]", line):
             yield from (line.upper(), line.lower(), recased(line, chance))
 
 
+def stored(name):
+    """A file of tests/vectors."""
+    with open(os.path.join(HERE, "vectors", name), "rb") as file:
+        return file.read()
+
+
+def with_price_twice(file):
+    """Lines of kind 02 with one price for an addition, which is their last field, as lines with two: s2 = s3 = s."""
+    return b"".join(line + line[-4:] + b"\n" for line in lines_of(file))
+
+
 LISTING = b"""010000000000000013
-020000000000000013023F28000400070009
+020000000000000013023F280004000700090009
 03000000000000001B0000000000000006
-020000000000000005013F28000400070009
+020000000000000005013F280004000700090009
 040200090000
 7F
 """
@@ -823,8 +916,7 @@ def test_ranking():
 
 # ---- the best chain
 
-PRICES = [(4, 7, 9), (0, 0, 0), (65535, 65535, 65535), (1, 65535, 0), (65535, 1, 3), (0, 1, 65535)]
-FREE = (255, 255, 255)
+PRICES = [(4, 7, 9, 9), (0, 0, 0, 0), (65535, 65535, 65535, 65535), (1, 65535, 65535, 0), (65535, 1, 0, 65535), (0, 1, 65535, 0)]
 LIMITS = [FREE, (64, 63, 40), (3, 63, 40), (2, 5, 2), (4, 3, 40), (3, 63, 1), (1, 255, 255), (0, 0, 0), (5, 0, 40), (6, 63, 0)]
 EDGE_LIMITS = [FREE, (63, 63, 40), (62, 63, 40), (64, 63, 0), (63, 63, 0), (64, 0, 40), (255, 62, 40), (255, 63, 39)]
 EDGES = [3 * 2**62 - 1, 3 * 2**62, 2**64 - 1, 2**64 - 2, 2**63, 2**62 - 1, 3**40, 3**40 - 1, 3**40 + 1, 2**63 - 1]
@@ -833,12 +925,12 @@ EDGES += [(2**36 * 3**19 - 27) // 5]
 
 def listed_best(entries, limits, prices):
     """Of the list of a number: (position, chain), by looking at every chain."""
-    (most, most_a, most_b), (d, t, s) = limits, prices
+    most, most_a, most_b = limits
     fitting = []
     for i, (_, c) in enumerate(entries):
         a, b = c[0] if c else (0, 0)
         if not c or (len(c) <= most and a <= most_a and b <= most_b):
-            fitting.append((len(c), price_of(c, d, t, s), i, c))
+            fitting.append((len(c), price_of(c, *prices), i, c))
     return min(fitting) if fitting else None
 
 
@@ -954,12 +1046,12 @@ def test_parts():
 @what
 @functools.cache
 def lines():
-    """Every kind for all numbers to 200; refusals; both cases; random and damaged lines; empty lines; a last line without byte 10.
+    """Every kind for all numbers to 200; refusals; prices; both cases; random and damaged lines; empty lines; a last line without byte 10.
 
     Lines of kind 07 are drawn apart, so that the random lines of the other kinds stay as they were.
     """
     some = [b"", b"", *some_lines(1, 20000, KINDS), *some_lines(7, 800, [7]), b"", LISTING.split(b"\n")[0]]
-    return b"\n".join([*small_file(200), *refused_file(), *run_file(), *cased_file(), *some])
+    return b"\n".join([*small_file(200), *refused_file(), *run_file(), *price_file(), *cased_file(), *some])
 
 
 @what

@@ -4,7 +4,7 @@
 //     count N                 how many chains N has
 //     position N WORD         how many words of the list of N come before WORD, or `none` where WORD is not in the list
 //     at N POSITION           the word at a position, or `none` where the list is not that long
-//     best N K A B D T S      parts, price and word of the best chain within the limits K, A, B at the prices D, T, S, or `none`
+//     best N K A B D T S2 S3  parts, price and word of the best chain within the limits K, A, B at the prices D, T, S2, S3, or `none`
 //
 // The road: a chain is built from its largest part down. What follows a part is a sum of parts, each at most half of the one before, thus
 // less than the part. So once a part q is taken, n mod q is left, whatever was taken before: all that is a multiple of q. If nothing is
@@ -193,10 +193,12 @@ fn at(points: &[Point], position: u64) -> Option<Vec<u8>> {
     }
 }
 
+/// An addition has the price of its point's letter, 1 or 3.
 struct Prices {
     doubling: u64,
     tripling: u64,
-    addition: u64,
+    addition_at_1: u64,
+    addition_at_3: u64,
 }
 
 impl Prices {
@@ -204,9 +206,9 @@ impl Prices {
     fn of(&self, told: &[u8]) -> u64 {
         let one = |letter: &u8| match letter {
             b'0' => self.doubling,
-            b'1' => self.doubling + self.addition,
+            b'1' => self.doubling + self.addition_at_1,
             b'2' => self.tripling,
-            _ => self.tripling + self.addition,
+            _ => self.tripling + self.addition_at_3,
         };
         told.iter().map(one).sum()
     }
@@ -256,7 +258,7 @@ fn answer(kind: &str, n: u64, more: &[&str], points: &[Point]) -> Option<String>
         ("at", _) => at(points, number(0)).map(text),
         ("best", 0) => Some("0 0 -".to_string()),
         ("best", _) => {
-            let prices = Prices { doubling: number(3), tripling: number(4), addition: number(5) };
+            let prices = Prices { doubling: number(3), tripling: number(4), addition_at_1: number(5), addition_at_3: number(6) };
             let found = best(points, [number(0), number(1), number(2)], &prices);
             found.map(|(k, price, word)| format!("{k} {price} {}", text(word)))
         }

@@ -66,8 +66,11 @@ uint8_t meltsjuk_count(uint64_t n, uint64_t *scratch, size_t scratch_length, uin
 
 /* The best chain of n: the fewest parts, then the lowest price, then the earliest position in the list of n's chains, among the
  * chains with at most `parts_limit` parts and a largest part 2^a * 3^b with a up to `a_limit` and b up to `b_limit`. Limits above
- * 64, 63 and 40 exclude nothing. The price of a chain of k parts is d * a + t * b + s * (k - 1). The number 0 has the empty chain,
- * of no parts and price 0, within any limits.
+ * 64, 63 and 40 exclude nothing. The number 0 has the empty chain, of no parts and price 0, within any limits.
+ *
+ * The price of a chain is d * a + t * b, plus an addition for each part but the largest. The addition at a part costs s3 if the
+ * next larger part of the chain has more factors 3 (letter 3 in the chain's word), and s2 if it has as many (letter 1). When the
+ * chain is run, an addition right after a tripling costs s3, and one right after a doubling costs s2.
  *
  * Lent: the scratch, MELTSJUK_SCRATCH numbers or more; MELTSJUK_PLACES places or more; one number each for the position, the number
  * of parts and the price.
@@ -75,9 +78,9 @@ uint8_t meltsjuk_count(uint64_t n, uint64_t *scratch, size_t scratch_length, uin
  * part first: the parts below 2^64 are numbered in ascending order from 0 (1, 2, 3, 4, 6, 8, ...). Then come zeros up to
  * MELTSJUK_PLACES, and later places are as they were.
  * Answers MELTSJUK_LITTLE_LENT or MELTSJUK_NONE_FITS otherwise, and the places and the three numbers are as they were. */
-uint8_t meltsjuk_best(uint64_t n, uint8_t parts_limit, uint8_t a_limit, uint8_t b_limit, uint16_t d, uint16_t t, uint16_t s,
-                      uint64_t *scratch, size_t scratch_length, uint16_t *places, size_t places_length, uint64_t *position,
-                      uint64_t *k, uint64_t *price);
+uint8_t meltsjuk_best(uint64_t n, uint8_t parts_limit, uint8_t a_limit, uint8_t b_limit, uint16_t d, uint16_t t, uint16_t s2,
+                      uint16_t s3, uint64_t *scratch, size_t scratch_length, uint16_t *places, size_t places_length,
+                      uint64_t *position, uint64_t *k, uint64_t *price);
 
 /* A chain run on x modulo m. A residue follows the chain's path back from the largest part. It begins as 0, is doubled or tripled
  * at each step, and x is added at each part. It ends as n * x modulo m, where n is the sum of the parts. The empty chain gives 0.

@@ -130,10 +130,10 @@ static void *too_little(void *unused)
     must(meltsjuk_reply(line, 18, exact.numbers, exact.length, out, MELTSJUK_REPLY - 1) == MELTSJUK_LITTLE_LENT,
          "a reply with few bytes");
     must(meltsjuk_count(19, shorter.numbers, shorter.length, &count) == MELTSJUK_LITTLE_LENT, "a count with a short scratch");
-    must(meltsjuk_best(19, 64, 63, 40, 4, 7, 9, shorter.numbers, shorter.length, places, MELTSJUK_PLACES, &position, &k, &price)
+    must(meltsjuk_best(19, 64, 63, 40, 4, 7, 8, 9, shorter.numbers, shorter.length, places, MELTSJUK_PLACES, &position, &k, &price)
              == MELTSJUK_LITTLE_LENT,
          "a best chain with a short scratch");
-    must(meltsjuk_best(19, 64, 63, 40, 4, 7, 9, exact.numbers, exact.length, places, MELTSJUK_PLACES - 1, &position, &k, &price)
+    must(meltsjuk_best(19, 64, 63, 40, 4, 7, 8, 9, exact.numbers, exact.length, places, MELTSJUK_PLACES - 1, &position, &k, &price)
              == MELTSJUK_LITTLE_LENT,
          "a best chain with few places");
     must(is_left(shorter, 0) && is_left(exact, 0), "a scratch written although it was refused");
@@ -157,11 +157,11 @@ static void *served(void *scratch)
     must(meltsjuk_count(19, s.numbers, s.length, &count) == MELTSJUK_SERVED && count == 4, "the count of 19");
     must(is_left(s, MELTSJUK_SCRATCH), "what a count leaves in the scratch");
     set_bits(s);
-    must(meltsjuk_best(19, 64, 63, 40, 4, 7, 9, s.numbers, s.length, places, MELTSJUK_PLACES, &position, &k, &price)
+    must(meltsjuk_best(19, 64, 63, 40, 4, 7, 8, 9, s.numbers, s.length, places, MELTSJUK_PLACES, &position, &k, &price)
              == MELTSJUK_SERVED,
          "the best chain of 19");
     must(position == 3 && k == 2 && price == 27 && places[0] == 9 && is_all(places + 1, sizeof places - sizeof places[0], 0),
-         "what a best chain leaves"); /* 18 + 1, which are the parts 9 and 0 */
+         "what a best chain leaves"); /* 18 + 1, which are the parts 9 and 0; the addition costs s3 = 9 */
     must(is_left(s, MELTSJUK_SCRATCH), "what a best chain leaves in the scratch");
     return NULL;
 }
@@ -176,7 +176,7 @@ static void *refused(void *scratch)
     must(meltsjuk_reply((const uint8_t *)"7F", 2, s.numbers, s.length, out, MELTSJUK_REPLY) == 2, "a reply to a line of no kind");
     must(strcmp((const char *)out, "04") == 0 && is_left(s, MELTSJUK_SCRATCH), "what is left where a line is refused");
     set_bits(s);
-    must(meltsjuk_best(5, 1, 63, 40, 4, 7, 9, s.numbers, s.length, places, MELTSJUK_PLACES, &position, &k, &price)
+    must(meltsjuk_best(5, 1, 63, 40, 4, 7, 8, 9, s.numbers, s.length, places, MELTSJUK_PLACES, &position, &k, &price)
              == MELTSJUK_NONE_FITS,
          "a chain of one part for 5");
     must(is_left(s, MELTSJUK_SCRATCH) && is_all(places, sizeof places, 0xFF), "what is left where none fits");
@@ -243,8 +243,8 @@ static void *call_best(void *request)
 
     r->status = meltsjuk_best(field(r->line, 1, 8), (uint8_t)field(r->line, 9, 1), (uint8_t)field(r->line, 10, 1),
                               (uint8_t)field(r->line, 11, 1), (uint16_t)field(r->line, 12, 2), (uint16_t)field(r->line, 14, 2),
-                              (uint16_t)field(r->line, 16, 2), r->scratch.numbers, r->scratch.length, places, MELTSJUK_PLACES,
-                              &r->position, &r->k, &r->price);
+                              (uint16_t)field(r->line, 16, 2), (uint16_t)field(r->line, 18, 2), r->scratch.numbers,
+                              r->scratch.length, places, MELTSJUK_PLACES, &r->position, &r->k, &r->price);
     return NULL;
 }
 
@@ -303,7 +303,7 @@ static void reply_by_call(struct request *r)
 {
     if (r->length == 18 && strncmp(r->line, "01", 2) == 0)
         reply_by_count(r);
-    else if (r->length == 36 && strncmp(r->line, "02", 2) == 0)
+    else if (r->length == 40 && strncmp(r->line, "02", 2) == 0)
         reply_by_best(r);
     else if (r->length >= 36 && r->length == 36 + 4 * field(r->line, 17, 1) && strncmp(r->line, "07", 2) == 0)
         reply_by_run(r);

@@ -21,7 +21,7 @@ fn reply_by_best(terminal: &mut Terminal, line: &[u8]) -> String {
     let byte = |at| field(line, at, 1) as u8;
     let pair = |at| field(line, at, 2) as u16;
     let limits = Limits { parts: byte(9), doublings: byte(10), triplings: byte(11) };
-    let prices = Prices { doubling: pair(12), tripling: pair(14), addition: pair(16) };
+    let prices = Prices { doubling: pair(12), tripling: pair(14), addition_2: pair(16), addition_3: pair(18) };
     match terminal.best(n, limits, prices) {
         None => "05".to_string(),
         Some(best) => {
@@ -42,7 +42,7 @@ fn reply_by_run(line: &[u8]) -> String {
 fn reply_by_call(terminal: &mut Terminal, line: &[u8]) -> String {
     match (line.len(), &line[..2]) {
         (18, b"01") => reply_by_count(terminal, line),
-        (36, b"02") => reply_by_best(terminal, line),
+        (40, b"02") => reply_by_best(terminal, line),
         (36.., b"07") if line.len() == 36 + 4 * field(line, 17, 1) as usize => reply_by_run(line),
         _ => panic!("a line that no call serves"),
     }

@@ -39,7 +39,8 @@ mod archive {
             b_limit: u8,
             d: u16,
             t: u16,
-            s: u16,
+            s2: u16,
+            s3: u16,
             scratch: *mut u64,
             scratch_length: usize,
             places: *mut u16,
@@ -70,15 +71,20 @@ impl Default for Limits {
     }
 }
 
-/// What a chain costs: `doubling` × a + `tripling` × b + `addition` × (k − 1), for k parts of which the largest is 2^a × 3^b.
+/// What a chain costs: `doubling` × a + `tripling` × b, where 2^a × 3^b is its largest part, plus `addition_2` or `addition_3` for
+/// each other part. The empty chain costs 0.
 #[derive(Clone, Copy, Debug, PartialEq, Eq)]
 pub struct Prices {
     /// The price of a doubling.
     pub doubling: u16,
     /// The price of a tripling.
     pub tripling: u16,
-    /// The price of an addition.
-    pub addition: u16,
+    /// The price of an addition right after a doubling: at a part with as many factors 3 as the next larger part of the chain. The
+    /// part's letter in the chain's word is 1.
+    pub addition_2: u16,
+    /// The price of an addition right after a tripling: at a part with fewer factors 3 than the next larger part of the chain. The
+    /// part's letter in the chain's word is 3.
+    pub addition_3: u16,
 }
 
 /// The best chain of a number.
@@ -216,12 +222,28 @@ impl Terminal {
     /// ```
     /// use meltsjuk::{Limits, Prices, Terminal};
     ///
-    /// let prices = Prices { doubling: 4, tripling: 7, addition: 9 };
+    /// let prices = Prices { doubling: 4, tripling: 7, addition_2: 9, addition_3: 9 };
     /// let mut terminal = Terminal::new();
     /// let best = terminal.best(19, Limits::default(), prices).unwrap();
     /// assert_eq!(best.parts, [9, 0]); // 18 + 1
     /// assert_eq!((best.position, best.price), (3, 27));
     /// assert_eq!(terminal.best(5, Limits { parts: 1, ..Limits::default() }, prices), None);
+    /// ```
+    ///
+    /// The chains 8 + 2 and 9 + 1 of 10 both have two parts, so the prices choose. The addition of 8 + 2 comes right after a
+    /// doubling, and that of 9 + 1 right after a tripling.
+    ///
+    /// ```
+    /// use meltsjuk::{Limits, Prices, Terminal};
+    ///
+    /// let same = Prices { doubling: 4, tripling: 7, addition_2: 9, addition_3: 9 };
+    /// let mut terminal = Terminal::new();
+    /// let best = terminal.best(10, Limits::default(), same).unwrap();
+    /// assert_eq!(best.parts, [5, 1]); // 8 + 2
+    /// assert_eq!(best.price, 21); // 3 × 4 + 9, against 2 × 7 + 9 = 23 for 9 + 1
+    /// let best = terminal.best(10, Limits::default(), Prices { addition_3: 6, ..same }).unwrap();
+    /// assert_eq!(best.parts, [6, 0]); // 9 + 1
+    /// assert_eq!(best.price, 20); // 2 × 7 + 6
     /// ```
     pub fn best(&mut self, n: u64, limits: Limits, prices: Prices) -> Option<Best> {
         let (mut position, mut k, mut price) = (0, 0, 0);
@@ -234,7 +256,8 @@ impl Terminal {
                 limits.triplings,
                 prices.doubling,
                 prices.tripling,
-                prices.addition,
+                prices.addition_2,
+                prices.addition_3,
                 self.scratch.as_mut_ptr(),
                 self.scratch.len(),
                 self.places.as_mut_ptr(),

@@ -21,10 +21,10 @@ pub record WordChosen (n : ℕ) (lim : Limits) (π : Prices) (rises marks p : �
   pub member : List·Memᴰ word (listOf n)
   pub good : T (reads true word)
   pub few : length word ≤ 64
-  pub chain : bestChain n lim π ≡ some (chainOf word)
+  pub chain : bestChain n lim (price π) ≡ some (chainOf word)
   pub told : p ≡ price π (chainOf word)
 
 -- What a choice says: the word of the best chain, or that no chain is within the limits.
 abbrev pub ChosenBy : ℕ → Limits → Prices → Choice → Type 0
 ChosenBy n lim π (choice.Word rises marks p) = WordChosen n lim π rises marks p
-ChosenBy n lim π choice.Nothing = bestChain n lim π ≡ none
+ChosenBy n lim π choice.Nothing = bestChain n lim (price π) ≡ none

@@ -23,7 +23,8 @@ use Rattle.chains.specs.RoundTrip.{word-chained}
 use Rattle.chains.specs.Bounds.{letters-bound, parts-bound}
 use Rattle.chains.specs.Keys.{key, inGrid, bestAt, keyOr, leastKey}
 use Rattle.chains.specs.Bests.{FirstLeast, first-member, best-found}
-use Rattle.chains.specs.BestOfAll.{costsOf, upTo, leastKeyed, key-price, price-fits, keyed-is-best}
+use Rattle.chains.specs.BestOfAll.{costsOf, upTo, leastKeyed, key-price, keyed-is-best}
+use Rattle.chains.specs.PriceLaws.{price-fits}
 use Rattle.words.specs.Packed.{bits, rise, mark}
 use Rattle.grid.specs.Grid.{restAt}
 use Rattle.grid.specs.Rests.{rest-origin}
@@ -42,7 +43,7 @@ module _ (n : ℕ) (lim : Limits) (π : Prices) (r : Choice) (h : ChosenBy n lim
   pub by-word : {rises marks p : ℕ} → r ≡ choice.Word rises marks p → WordChosen n lim π rises marks p
   by-word e = subst (ChosenBy n lim π) e h
 
-  pub by-nothing : r ≡ choice.Nothing → bestChain n lim π ≡ none
+  pub by-nothing : r ≡ choice.Nothing → bestChain n lim (price π) ≡ none
   by-nothing e = subst (ChosenBy n lim π) e h
 
 -- ---- the number 0
@@ -57,7 +58,7 @@ zero-chosen n lim π e =
       member = member-words true n [] .1 (tt, sym e);
       good = tt;
       few = omega arith;
-      chain = rw e (best-of-zero lim π);
+      chain = rw e (best-of-zero lim (price π));
       told = refl;
     }
 
@@ -72,7 +73,7 @@ module _ {n : ℕ} (lim : Limits) (π : Prices) (fits : n < 2 ^ 64) (cheap : Che
 
   -- No price reaches what a part counts, so the word of least key is that of the best chain.
   all-fit : (c : List Part) → ChainOf n c → price π c < partWeight
-  all-fit = price-fits n π fits (cheap .d) (cheap .t) (cheap .s)
+  all-fit = price-fits n π fits (cheap .d) (cheap .t) (cheap .s2) (cheap .s3)
 
   -- The best word is one of the list of n: a good word that stands for n.
   member : (w : Word) → best ≡ some w → List·Memᴰ w (wordsAt true n)
@@ -94,7 +95,7 @@ module _ {n : ℕ} (lim : Limits) (π : Prices) (fits : n < 2 ^ 64) (cheap : Che
       let p = all-fit (chainOf w) c in
       (rw e (omega (arith, key-price partWeight π w (m .0), parts-bound n 64 (chainOf w) c fits)), p)
 
-  none-within : lim .K < leastOf / partWeight → bestChain n lim π ≡ none
+  none-within : lim .K < leastOf / partWeight → bestChain n lim (price π) ≡ none
   unfolding leastKeyed upTo
   none-within h = sym (keyed-is-best partWeight n lim π all-fit) ∙ go best refl
     where
@@ -151,7 +152,7 @@ module _ {costs : List ℕ} {n : ℕ} {lim : Limits} {π : Prices} {entry : List
     least-is : min noKey (getD l 64 0) ≡ leastHere
     least-is = cell ∙ rw (b .costs-are, prices-costs)
 
-    pub filled-none : lim .K < getD l 64 0 / partWeight → bestChain n lim π ≡ none
+    pub filled-none : lim .K < getD l 64 0 / partWeight → bestChain n lim (price π) ≡ none
     filled-none h = none-within lim π (b .fits) (b .cheap) (omega (arith, least-is, b .byte))
 
     module _ (h : getD l 64 0 / partWeight ≤ lim .K) where

@@ -1,6 +1,7 @@
--- What the best chain answers and leaves behind: document 01, 'Services and memory', and refusals 1 and 5.
+-- What the best chain answers and leaves behind: document 01, 'Services and memory', and refusals 1 and 5; document 02, T-04.
 --
--- Like the services of ranking it has an outcome, and the answer and what is left in the lent memory follow from that.
+-- Like the services of ranking it has an outcome, and the answer and what is left in the lent memory follow from that. The service
+-- has `price π` for the cost of a chain, by the prices π that it is given.
 -- Definitions only. That the outcome is the best chain of demand 3 is in Demand3.
 use mathlib.Core.List.{List}
 use mathlib.Core.Option.{Option, none, some}
@@ -8,7 +9,7 @@ use Prim.Native.Nat.{ℕ}
 use lib.ListN.{length}
 use Rattle.chains.specs.Chains.{Part}
 use Rattle.chains.specs.Listing.{position}
-use Rattle.chains.specs.Best.{Prices, price, Limits, bestChain}
+use Rattle.chains.specs.Best.{Prices, Limits, bestChain}
 use Rattle.ranking.specs.Services.{Outcome, refused, gives}
 use Rattle.best.specs.declared.Limits as given
 use Rattle.best.specs.declared.Prices as asked
@@ -20,18 +21,18 @@ abbrev pub limitsOf : given.Limits → Limits
 limitsOf l = record { K = l .parts; A = l .doublings; B = l .triplings }
 
 abbrev pub pricesOf : asked.Prices → Prices
-pricesOf p = record { d = p .doubling; t = p .tripling; s = p .addition }
+pricesOf p = record { d = p .doubling; t = p .tripling; s2 = p .addition_2; s3 = p .addition_3 }
 
 -- A chain of n, if there is one, and else refusal 5.
 unfoldable pub orNone : ℕ → Option (List Part) → Outcome
 orNone n none = refused 5
 orNone n (some c) = gives n c
 
--- The best chain of n within the limits.
-unfoldable pub bestOutcome : ℕ → Limits → Prices → Outcome
-bestOutcome n lim π = orNone n (bestChain n lim π)
+-- The best chain of n within the limits, by what a chain costs.
+unfoldable pub bestOutcome : ℕ → Limits → (List Part → ℕ) → Outcome
+bestOutcome n lim cost = orNone n (bestChain n lim cost)
 
--- The position, how many parts and the price, or the refusal.
-unfoldable pub chosenOf : Prices → Outcome → Chosen
-chosenOf π (refused r) = Refused r
-chosenOf π (gives n c) = Chain (position n c) (length c) (price π c)
+-- The position, how many parts and the cost, or the refusal.
+unfoldable pub chosenOf : (List Part → ℕ) → Outcome → Chosen
+chosenOf cost (refused r) = Refused r
+chosenOf cost (gives n c) = Chain (position n c) (length c) (cost c)

@@ -14,7 +14,7 @@ use Rattle.chains.specs.Chains.{Part}
 use Rattle.chains.specs.Words.{chainOf}
 use Rattle.chains.specs.Listing.{listOf, countBefore, position}
 use Rattle.chains.specs.RoundTrip.{word-chain-word}
-use Rattle.chains.specs.Best.{Prices, Limits, bestChain}
+use Rattle.chains.specs.Best.{Prices, price, Limits, bestChain}
 use Rattle.lent.specs.Lent.{filled, OnlyFirst, scratchSize, littleScratch, scratchLeft, tooLittle, Enough}
 use Rattle.lent.specs.LentLaws.{enough-zeroed, used-left}
 use Rattle.parts.specs.Parts.{partNumber}
@@ -34,12 +34,12 @@ use Rattle.best.specs.Choosing.{WordChosen}
 -- ---- at a return of the best chain
 
 -- The answer r, the places p′ and the scratch s′ are those of an outcome, where s and p were lent.
-abbrev pub Served : Prices → Outcome → List ℕ → List ℕ → Chosen → List ℕ → List ℕ → Type 0
-Served π o s p r p′ s′ =
-    (r ≡ chosenOf π (lent s p o)) × ((p′ ≡ placesLeft (lent s p o) p) × (s′ ≡ scratchLeft (tooLittle 64 s p) s))
+abbrev pub Served : (List Part → ℕ) → Outcome → List ℕ → List ℕ → Chosen → List ℕ → List ℕ → Type 0
+Served cost o s p r p′ s′ =
+    (r ≡ chosenOf cost (lent s p o)) × ((p′ ≡ placesLeft (lent s p o) p) × (s′ ≡ scratchLeft (tooLittle 64 s p) s))
 
-module _ (π : Prices) (o : Outcome) (s p : List ℕ) where
-  pub little : tooLittle 64 s p ≡ true → Served π o s p (Refused 1) p s
+module _ (cost : List Part → ℕ) (o : Outcome) (s p : List ℕ) where
+  pub little : tooLittle 64 s p ≡ true → Served cost o s p (Refused 1) p s
   unfolding chosenOf lent placesLeft scratchLeft
   little e = rw e (refl, (refl, refl))
 
@@ -49,15 +49,15 @@ module _ (π : Prices) (n : ℕ) (lim : Limits) {s p : List ℕ} (h : Enough 64 
 
   -- ---- no word
 
-  pub none-served : {s′ : List ℕ} → bestChain n lim π ≡ none → s′ ≡ scratchLeft (littleScratch l) l
-      → Served π (bestOutcome n lim π) s p (Refused 5) p s′
+  pub none-served : {s′ : List ℕ} → bestChain n lim (price π) ≡ none → s′ ≡ scratchLeft (littleScratch l) l
+      → Served (price π) (bestOutcome n lim (price π)) s p (Refused 5) p s′
   unfolding bestOutcome orNone chosenOf placesLeft
-  none-served e z = rw (lent-all s p (bestOutcome n lim π) h, enough-zeroed 64 s p h, e) (refl, (refl, z ∙ used-left (h .numbers) u))
+  none-served e z = rw (lent-all s p (bestOutcome n lim (price π)) h, enough-zeroed 64 s p h, e) (refl, (refl, z ∙ used-left (h .numbers) u))
 
   -- ---- the chosen word
 
   module _ {rises marks told : ℕ} (w : WordChosen n lim π rises marks told) where
-    best : bestOutcome n lim π ≡ gives n (chainOf (w .word))
+    best : bestOutcome n lim (price π) ≡ gives n (chainOf (w .word))
     unfolding bestOutcome orNone
     best = rw (w .chain)
 
@@ -88,8 +88,8 @@ module _ (π : Prices) (n : ℕ) (lim : Limits) {s p : List ℕ} (h : Enough 64 
           → k ≡ length (packedChain rises marks)
           → p′ ≡ partsLeft rises marks p
           → s′ ≡ scratchLeft (littleScratch l) l
-          → Served π (bestOutcome n lim π) s p (Chain at k told) p′ s′
+          → Served (price π) (bestOutcome n lim (price π)) s p (Chain at k told) p′ s′
       unfolding chosenOf placesLeft filled
       word-served f ek ep es =
-          rw (lent-all s p (bestOutcome n lim π) h, best, enough-zeroed 64 s p h)
+          rw (lent-all s p (bestOutcome n lim (price π)) h, best, enough-zeroed 64 s p h)
           (cc (placed f, ek, ap length chain-is, w .told), (ep ∙ stands, es ∙ used-left (h .numbers) u))

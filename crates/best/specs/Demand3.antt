@@ -2,7 +2,8 @@
 -- price, or the same and a later position; it is refused with 5 exactly where no chain of n is within the limits.
 --
 -- In this order: what demand 3 asks of an answer and of the places; the outcome (`given-is-best`, `refused-none`), and what a
--- caller gets where enough is lent, the answer and the places (`demand-3`); the number 0; limits above 64, 63 and 40.
+-- caller gets where enough is lent, the answer and the places (`demand-3`); the number 0; limits above 64, 63 and 40; the same
+-- price for every addition.
 use mathlib.Core.Path.{_≡_, refl, sym, ap}
 use mathlib.Core.Logic.{_↔_}
 use mathlib.Core.List.{List, [], _∷_, map}
@@ -15,6 +16,7 @@ use Rattle.chains.specs.Chains.{Part, ChainOf}
 use Rattle.chains.specs.Listing.{position}
 use Rattle.chains.specs.Best.{Prices, price, Limits, Within, NoneFits, IsBest, bestChain}
 use Rattle.chains.specs.BestLaws.{best-unique, best-chain, best-none, best-of-zero}
+use Rattle.chains.specs.OnePrice.{earlierPrice, sForBoth, one-price-chosen}
 use Rattle.chains.specs.Bounds.{chain-bounds}
 use Rattle.parts.specs.Parts.{partNumber}
 use Rattle.ranking.specs.Services.{Outcome, refused, gives, lent, placesLeft}
@@ -26,7 +28,7 @@ use Rattle.best.specs.Chosen.{orNone, bestOutcome, chosenOf}
 -- The best chain stands in the places at exit, and its position, its number of parts and its price are told: i, k and p.
 pub record BestTold (n : ℕ) (lim : Limits) (π : Prices) (entry exit : List ℕ) (i k p : ℕ) : Type 0 where
   pub chain : List Part
-  pub best : IsBest n lim π chain
+  pub best : IsBest n lim (price π) chain
   pub told-position : i ≡ position n chain
   pub told-parts : k ≡ length chain
   pub told-price : p ≡ price π chain
@@ -42,32 +44,32 @@ Meets n lim π entry exit (Refused r) = (r ≡ 5) × NoneFits n lim × (exit ≡
 module _ (n : ℕ) (lim : Limits) (π : Prices) where
   -- The outcome is one of two.
   data Told : Outcome → Type 0 where
-    fitting : (c : List Part) → IsBest n lim π c → Told (gives n c)
+    fitting : (c : List Part) → IsBest n lim (price π) c → Told (gives n c)
     nothing : NoneFits n lim → Told (refused 5)
 
-  told : Told (bestOutcome n lim π)
+  told : Told (bestOutcome n lim (price π))
   unfolding bestOutcome orNone
-  told = go (bestChain n lim π) refl
+  told = go (bestChain n lim (price π)) refl
     where
-      go : (o : Option (List Part)) → bestChain n lim π ≡ o → Told (orNone n o)
-      go none e = nothing (best-none n lim π .0 e)
-      go (some c) e = fitting c (best-chain n lim π c .0 e)
+      go : (o : Option (List Part)) → bestChain n lim (price π) ≡ o → Told (orNone n o)
+      go none e = nothing (best-none n lim (price π) .0 e)
+      go (some c) e = fitting c (best-chain n lim (price π) c .0 e)
 
   -- It gives the best chain of n within the limits, and no other;
-  pub given-is-best : (c : List Part) → (bestOutcome n lim π ≡ gives n c) ↔ IsBest n lim π c
-  given-is-best c = (is-best (bestOutcome n lim π) told, is-given (bestOutcome n lim π) told)
+  pub given-is-best : (c : List Part) → (bestOutcome n lim (price π) ≡ gives n c) ↔ IsBest n lim (price π) c
+  given-is-best c = (is-best (bestOutcome n lim (price π)) told, is-given (bestOutcome n lim (price π)) told)
     where
-      is-best : (o : Outcome) → Told o → o ≡ gives n c → IsBest n lim π c
+      is-best : (o : Outcome) → Told o → o ≡ gives n c → IsBest n lim (price π) c
       is-best o (fitting c′ b) e = let same : c′ ≡ c = cc in rw same at b
       is-best o (nothing f) e = let z : _≡_ {A = ℕ} 0 1 = cc in absurd (omega arith)
 
-      is-given : (o : Outcome) → Told o → IsBest n lim π c → o ≡ gives n c
-      is-given o (fitting c′ b′) b = ap (gives n) (best-unique n lim π c′ c b′ b)
+      is-given : (o : Outcome) → Told o → IsBest n lim (price π) c → o ≡ gives n c
+      is-given o (fitting c′ b′) b = ap (gives n) (best-unique n lim (price π) c′ c b′ b)
       is-given o (nothing f) b = absurd (f c (b .chain) (b .within))
 
   -- it refuses with 5 exactly where there is none.
-  pub refused-none : (bestOutcome n lim π ≡ refused 5) ↔ NoneFits n lim
-  refused-none = (is-none (bestOutcome n lim π) told, is-refused (bestOutcome n lim π) told)
+  pub refused-none : (bestOutcome n lim (price π) ≡ refused 5) ↔ NoneFits n lim
+  refused-none = (is-none (bestOutcome n lim (price π)) told, is-refused (bestOutcome n lim (price π)) told)
     where
       is-none : (o : Outcome) → Told o → o ≡ refused 5 → NoneFits n lim
       is-none o (fitting c b) e = let z : _≡_ {A = ℕ} 0 1 = cc in absurd (omega arith)
@@ -79,11 +81,11 @@ module _ (n : ℕ) (lim : Limits) (π : Prices) where
 
   -- The answer and the places at exit, as the contract of `best_chain` has them.
   pub demand-3 : {s p : List ℕ} → Enough 64 s p
-      → Meets n lim π p (placesLeft (lent s p (bestOutcome n lim π)) p) (chosenOf π (lent s p (bestOutcome n lim π)))
+      → Meets n lim π p (placesLeft (lent s p (bestOutcome n lim (price π))) p) (chosenOf (price π) (lent s p (bestOutcome n lim (price π))))
   unfolding chosenOf placesLeft
-  demand-3 {s} {p} h = rw (lent-all s p (bestOutcome n lim π) h) (go (bestOutcome n lim π) told)
+  demand-3 {s} {p} h = rw (lent-all s p (bestOutcome n lim (price π)) h) (go (bestOutcome n lim (price π)) told)
     where
-      go : (o : Outcome) → Told o → Meets n lim π p (placesLeft o p) (chosenOf π o)
+      go : (o : Outcome) → Told o → Meets n lim π p (placesLeft o p) (chosenOf (price π) o)
       go o (fitting c b) =
           record { chain = c; best = b; told-position = refl; told-parts = refl; told-price = refl; stands = refl }
       go o (nothing f) = (refl, f, refl)
@@ -91,9 +93,9 @@ module _ (n : ℕ) (lim : Limits) (π : Prices) where
 -- ---- the number 0
 
 -- The empty chain, for all limits and prices.
-pub zero-given : (lim : Limits) (π : Prices) → bestOutcome 0 lim π ≡ gives 0 []
+pub zero-given : (lim : Limits) (π : Prices) → bestOutcome 0 lim (price π) ≡ gives 0 []
 unfolding bestOutcome orNone
-zero-given lim π = rw (best-of-zero lim π)
+zero-given lim π = rw (best-of-zero lim (price π))
 
 -- ---- limits above 64, 63 and 40 exclude nothing
 
@@ -110,13 +112,22 @@ module _ {n : ℕ} (fits : n < 2 ^ 64) where
       let l = chain-bounds n p c fits h in
       (λ w. (omega arith, omega arith, omega arith), λ w. (omega arith, omega arith, omega arith))
 
-  pub limits-cut : (lim : Limits) (π : Prices) → bestOutcome n lim π ≡ bestOutcome n (cut lim) π
-  limits-cut lim π = go (bestOutcome n lim π) (told n lim π)
+  pub limits-cut : (lim : Limits) (π : Prices) → bestOutcome n lim (price π) ≡ bestOutcome n (cut lim) (price π)
+  limits-cut lim π = go (bestOutcome n lim (price π)) (told n lim π)
     where
-      go : (o : Outcome) → Told n lim π o → o ≡ bestOutcome n (cut lim) π
+      go : (o : Outcome) → Told n lim π o → o ≡ bestOutcome n (cut lim) (price π)
       go o (fitting c b) = sym (given-is-best n (cut lim) π c .1 (record {
         chain = b .chain;
         within = within-cut lim c (b .chain) .0 (b .within);
         best = λ c′ h w d. b .best c′ h (within-cut lim c′ h .1 w) d;
       }))
       go o (nothing f) = sym (refused-none n (cut lim) π .1 (λ c h w. f c h (within-cut lim c h .1 w)))
+
+-- ---- the same price for every addition
+
+-- The outcome is the one by document 01's price, which it was before there were two prices: document 02, T-04. What is told of a
+-- chain is the same too, its price by `one-price` (chains, OnePrice).
+pub one-price-outcome : (n : ℕ) (lim : Limits) (d t s : ℕ)
+    → bestOutcome n lim (price (sForBoth d t s)) ≡ bestOutcome n lim (earlierPrice d t s)
+unfolding bestOutcome
+one-price-outcome n lim d t s = rw (one-price-chosen n lim d t s)

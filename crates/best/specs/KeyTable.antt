@@ -28,7 +28,7 @@ noKey = 2 ^ 40
 
 -- What the letters 0 to 3 cost where they are not the last, and what the last point costs.
 abbrev pub letterCosts : Prices → List ℕ
-letterCosts π = π .d ∷ (partWeight + π .s + π .d) ∷ π .t ∷ (partWeight + π .s + π .t) ∷ partWeight ∷ []
+letterCosts π = π .d ∷ (partWeight + π .s2 + π .d) ∷ π .t ∷ (partWeight + π .s3 + π .t) ∷ partWeight ∷ []
 
 -- The costs that such a list tells.
 unfoldable pub letterBy : List ℕ → ℕ → ℕ
@@ -50,7 +50,8 @@ pub record Low (costs : List ℕ) : Type 0 where
 pub record Cheap (π : Prices) : Type 0 where
   pub d : π .d < 2 ^ 16
   pub t : π .t < 2 ^ 16
-  pub s : π .s < 2 ^ 16
+  pub s2 : π .s2 < 2 ^ 16
+  pub s3 : π .s3 < 2 ^ 16
 
 -- ---- a cell
 

@@ -34,8 +34,9 @@ pub fn letter_costs(prices: Prices) -> [u64; 5]
 {
     let d = prices.doubling as u64;
     let t = prices.tripling as u64;
-    let part = PART + prices.addition as u64;
-    [d, part + d, t, part + t, PART]
+    let part_2 = PART + prices.addition_2 as u64;
+    let part_3 = PART + prices.addition_3 as u64;
+    [d, part_2 + d, t, part_3 + t, PART]
 }
 
 fn least(x: u64, y: u64) -> u64

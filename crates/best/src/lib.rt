@@ -6,6 +6,7 @@ mod walk;
 use choosing::Choice;
 use counting::Counted;
 ghost use mathlib.Core.Path.{_≡_};
+ghost use Rattle.chains.specs.Best.{price};
 ghost use Rattle.lent.specs.Lent.{tooLittle, scratchLeft};
 ghost use Rattle.ranking.specs.Services.{lent, placesLeft};
 ghost use Rattle.best.specs.Chosen.{limitsOf, pricesOf, bestOutcome, chosenOf};
@@ -17,11 +18,13 @@ pub struct Limits {
     pub triplings: u8,
 }
 
-// The prices of a doubling, a tripling and an addition.
+// The prices of a doubling, of a tripling, and of an addition: `addition_2` at a point with letter 1, whose addition is made with a
+// doubling, and `addition_3` at a point with letter 3 that is not the last, whose addition is made with a tripling.
 pub struct Prices {
     pub doubling: u16,
     pub tripling: u16,
-    pub addition: u16,
+    pub addition_2: u16,
+    pub addition_3: u16,
 }
 
 // The best chain, its parts in the places, or the refusal.
@@ -44,11 +47,11 @@ pub fn best_chain(
     places: &mut [u16],
 ) -> Chosen
     ensures answer { λ r. ⌜ r
-        ≡ chosenOf (pricesOf prices)
-        (lent (now (scratch .entry)) (now (places .entry)) (bestOutcome n (limitsOf limits) (pricesOf prices))) ⌝ }
+        ≡ chosenOf (price (pricesOf prices))
+        (lent (now (scratch .entry)) (now (places .entry)) (bestOutcome n (limitsOf limits) (price (pricesOf prices)))) ⌝ }
     ensures places { λ _. ⌜ now (places .exit)
         ≡ placesLeft
-        (lent (now (scratch .entry)) (now (places .entry)) (bestOutcome n (limitsOf limits) (pricesOf prices)))
+        (lent (now (scratch .entry)) (now (places .entry)) (bestOutcome n (limitsOf limits) (price (pricesOf prices))))
         (now (places .entry)) ⌝ }
     ensures scratch { λ _. ⌜ now (scratch .exit)
         ≡ scratchLeft (tooLittle 64 (now (scratch .entry)) (now (places .entry))) (now (scratch .entry)) ⌝ }

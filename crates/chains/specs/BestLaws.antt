@@ -1,4 +1,4 @@
--- The best chain as a function is the best chain: document 01, 'Services and memory'; demand 3. For all n, limits and prices.
+-- The best chain as a function is the best chain: document 01, 'Services and memory'; demand 3. For all n, limits and costs.
 --
 -- In this order: a number has one best chain at most (`best-unique`); the test of the limits tells what `Within` says; what `lower`
 -- tells; of two words the one before the other has the lower position; what `bestAmong` gives of a list that ascends. Last the
@@ -19,7 +19,7 @@ use borrow.Author.Tests.{ltb-true, ltb-false, eqb-true, eqb-false}
 use Rattle.chains.specs.Chains.{Part, ChainOf}
 use Rattle.chains.specs.Words.{Word, wordOf, chainFrom, chainOf}
 use Rattle.chains.specs.Listing.{before, atRest, wordsIn, wordsAt, listOf, countBefore, position, chainAt}
-use Rattle.chains.specs.Best.{Prices, price, Limits, Within, NoneFits, Better, IsBest}
+use Rattle.chains.specs.Best.{Limits, Within, NoneFits, Better, IsBest}
 use Rattle.chains.specs.Best.{isWithin, lower, sooner, bestAmong, bestChain}
 use Rattle.chains.specs.Order.{before-irrefl, before-trans}
 use Rattle.chains.specs.Members.{Ascends, words-ascend, list-ascends}
@@ -32,16 +32,16 @@ use Rattle.chains.specs.RoundTrip.{chain-word-chain, word-chain-word}
 -- ---- a number has one best chain at most
 
 -- Of two chains not each is better than the other.
-not-both : (n : ℕ) (π : Prices) (c c′ : List Part) → Better n π c c′ → Better n π c′ c → ⊥
+not-both : (n : ℕ) (cost : List Part → ℕ) (c c′ : List Part) → Better n cost c c′ → Better n cost c′ c → ⊥
 unfolding Better
-not-both n π c c′ (inl h) (inl k) = omega arith
-not-both n π c c′ (inl h) (inr k) = omega arith
-not-both n π c c′ (inr h) (inl k) = omega arith
-not-both n π c c′ (inr h) (inr k) = by-price (h .1) (k .1)
+not-both n cost c c′ (inl h) (inl k) = omega arith
+not-both n cost c c′ (inl h) (inr k) = omega arith
+not-both n cost c c′ (inr h) (inl k) = omega arith
+not-both n cost c c′ (inr h) (inr k) = by-price (h .1) (k .1)
   where
     by-price :
-        (price π c < price π c′) ⊎ ((price π c ≡ price π c′) × (position n c < position n c′))
-        → (price π c′ < price π c) ⊎ ((price π c′ ≡ price π c) × (position n c′ < position n c))
+        (cost c < cost c′) ⊎ ((cost c ≡ cost c′) × (position n c < position n c′))
+        → (cost c′ < cost c) ⊎ ((cost c′ ≡ cost c) × (position n c′ < position n c))
         → ⊥
     by-price (inl h) (inl k) = omega arith
     by-price (inl h) (inr k) = omega arith
@@ -49,14 +49,14 @@ not-both n π c c′ (inr h) (inr k) = by-price (h .1) (k .1)
     by-price (inr h) (inr k) = omega arith
 
 -- A number has one best chain at most.
-pub best-unique : (n : ℕ) (lim : Limits) (π : Prices) (c c′ : List Part) → IsBest n lim π c → IsBest n lim π c′ → c ≡ c′
-best-unique n lim π c c′ h h′ = go (ℕ-discrete (position n c) (position n c′))
+pub best-unique : (n : ℕ) (lim : Limits) (cost : List Part → ℕ) (c c′ : List Part) → IsBest n lim cost c → IsBest n lim cost c′ → c ≡ c′
+best-unique n lim cost c c′ h h′ = go (ℕ-discrete (position n c) (position n c′))
   where
     go : Dec (position n c ≡ position n c′) → c ≡ c′
     go (yes e) = sym (at-position n c (h .chain) .1) ∙ ap (chainAt n) e ∙ at-position n c′ (h′ .chain) .1
     go (no d) =
         absurd
-        (not-both n π c c′
+        (not-both n cost c c′
         (h .best c′ (h′ .chain) (h′ .within) (λ (q : c′ ≡ c). d (ap (position n) (sym q))))
         (h′ .best c (h .chain) (h .within) (λ (q : c ≡ c′). d (ap (position n) q))))
 
@@ -78,15 +78,15 @@ within-tested lim (p ∷ c) =
           (yes-and a b (le→leb (p .a) (lim .A) (h .1)) (le→leb (p .b) (lim .B) (h .2))),
     )
 
--- ---- fewer parts, or as many and a lower price
+-- ---- fewer parts, or as many and a lower cost
 
-module _ (π : Prices) where
+module _ (cost : List Part → ℕ) where
   abbrev Lower : List Part → List Part → Type 0
-  Lower c c′ = (length c < length c′) ⊎ ((length c ≡ length c′) × (price π c < price π c′))
+  Lower c c′ = (length c < length c′) ⊎ ((length c ≡ length c′) × (cost c < cost c′))
 
   -- c′ is not lower than c.
   abbrev NoHigher : List Part → List Part → Type 0
-  NoHigher c c′ = (length c < length c′) ⊎ ((length c ≡ length c′) × (price π c ≤ price π c′))
+  NoHigher c c′ = (length c < length c′) ⊎ ((length c ≡ length c′) × (cost c ≤ cost c′))
 
   no-higher-trans : (c c′ c″ : List Part) → NoHigher c c′ → NoHigher c′ c″ → NoHigher c c″
   no-higher-trans c c′ c″ (inl h) (inl k) = inl (omega arith)
@@ -99,20 +99,20 @@ module _ (π : Prices) where
   LowerTold c c′ true = Lower c c′
   LowerTold c c′ false = NoHigher c′ c
 
-  lower-told : (c c′ : List Part) → LowerTold c c′ (lower π c c′)
+  lower-told : (c c′ : List Part) → LowerTold c c′ (lower cost c c′)
   unfolding lower
   lower-told c c′ =
-      go (ltb (length c) (length c′)) (eqb (length c) (length c′)) (ltb (price π c) (price π c′)) refl refl refl
+      go (ltb (length c) (length c′)) (eqb (length c) (length c′)) (ltb (cost c) (cost c′)) refl refl refl
     where
       go :
           (x y z : Bool)
           → ltb (length c) (length c′) ≡ x
           → eqb (length c) (length c′) ≡ y
-          → ltb (price π c) (price π c′) ≡ z
+          → ltb (cost c) (cost c′) ≡ z
           → LowerTold c c′ (x || (y && z))
       go true y z f g h = inl (ltb-true (length c) (length c′) f)
-      go false true true f g h = inr (eqb-true (length c) (length c′) g, ltb-true (price π c) (price π c′) h)
-      go false true false f g h = inr (sym (eqb-true (length c) (length c′) g), ltb-false (price π c) (price π c′) h)
+      go false true true f g h = inr (eqb-true (length c) (length c′) g, ltb-true (cost c) (cost c′) h)
+      go false true false f g h = inr (sym (eqb-true (length c) (length c′) g), ltb-false (cost c) (cost c′) h)
       go false false z f g h = inl (omega (arith, ltb-false (length c) (length c′) f, eqb-false (length c) (length c′) g))
 
   -- ---- what is found in a list that ascends
@@ -122,7 +122,7 @@ module _ (π : Prices) where
   Ahead w v =
       (length (chainOf w) < length (chainOf v))
       ⊎ ((length (chainOf w) ≡ length (chainOf v))
-      × ((price π (chainOf w) < price π (chainOf v)) ⊎ ((price π (chainOf w) ≡ price π (chainOf v)) × T (before w v))))
+      × ((cost (chainOf w) < cost (chainOf v)) ⊎ ((cost (chainOf w) ≡ cost (chainOf v)) × T (before w v))))
 
   lower-ahead : (w v : Word) → Lower (chainOf w) (chainOf v) → Ahead w v
   lower-ahead w v (inl h) = inl h
@@ -130,10 +130,10 @@ module _ (π : Prices) where
 
   before-ahead : (w v : Word) → NoHigher (chainOf w) (chainOf v) → T (before w v) → Ahead w v
   before-ahead w v (inl h) t = inl h
-  before-ahead w v (inr h) t = inr (h .0, go (decLt (price π (chainOf w)) (price π (chainOf v))))
+  before-ahead w v (inr h) t = inr (h .0, go (decLt (cost (chainOf w)) (cost (chainOf v))))
     where
-      go : Dec (price π (chainOf w) < price π (chainOf v))
-          → (price π (chainOf w) < price π (chainOf v)) ⊎ ((price π (chainOf w) ≡ price π (chainOf v)) × T (before w v))
+      go : Dec (cost (chainOf w) < cost (chainOf v))
+          → (cost (chainOf w) < cost (chainOf v)) ⊎ ((cost (chainOf w) ≡ cost (chainOf v)) × T (before w v))
       go (yes l) = inl l
       go (no l) = inr (omega arith, t)
 
@@ -188,10 +188,10 @@ module _ (π : Prices) where
         → fits x
         → ((v : Word) → List·Memᴰ v ws → T (before x v))
         → Told ws o
-        → Told (x ∷ ws) (sooner π (chainOf x) o)
+        → Told (x ∷ ws) (sooner cost (chainOf x) o)
     unfolding sooner
     taken x ws none p a h = (x, refl, head-first x ws p (λ v m q. absurd (h v m q)))
-    taken x ws (some c) p a (w, e, f) = go (lower π c (chainOf x)) (rw e (lower-told (chainOf w) (chainOf x)))
+    taken x ws (some c) p a (w, e, f) = go (lower cost c (chainOf x)) (rw e (lower-told (chainOf w) (chainOf x)))
       where
         go : (b : Bool) → LowerTold (chainOf w) (chainOf x) b → Told (x ∷ ws) (cond b (some c) (some (chainOf x)))
         go true l = (w, e, tail-first x w ws (λ _. lower-ahead w x l) f)
@@ -205,7 +205,7 @@ module _ (π : Prices) where
               (a v m)),
         )
 
-    told : (ws : List Word) → Ascends ws → Told ws (bestAmong lim π ws)
+    told : (ws : List Word) → Ascends ws → Told ws (bestAmong lim cost ws)
     unfolding bestAmong Ascends
     told [] a = λ v m q. List·Memᴰ·not-nil m
     told (x ∷ ws) a = go (isWithin lim (chainOf x)) refl (told ws (a .1))
@@ -213,10 +213,10 @@ module _ (π : Prices) where
         go :
             (b : Bool)
             → isWithin lim (chainOf x) ≡ b
-            → Told ws (bestAmong lim π ws)
-            → Told (x ∷ ws) (cond b (sooner π (chainOf x) (bestAmong lim π ws)) (bestAmong lim π ws))
-        go true e h = taken x ws (bestAmong lim π ws) (subst T (sym e) tt) (a .0) h
-        go false e h = skipped x ws (bestAmong lim π ws) (λ p. subst T e p) h
+            → Told ws (bestAmong lim cost ws)
+            → Told (x ∷ ws) (cond b (sooner cost (chainOf x) (bestAmong lim cost ws)) (bestAmong lim cost ws))
+        go true e h = taken x ws (bestAmong lim cost ws) (subst T (sym e) tt) (a .0) h
+        go false e h = skipped x ws (bestAmong lim cost ws) (λ p. subst T e p) h
 
 -- ---- positions
 
@@ -250,8 +250,8 @@ before-position n u v m k t = go (decLt i j) (decLt j i)
 
 -- ---- the best chain
 
-module _ (n : ℕ) (lim : Limits) (π : Prices) where
-  first-best : (w : Word) → First π lim (listOf n) w → IsBest n lim π (chainOf w)
+module _ (n : ℕ) (lim : Limits) (cost : List Part → ℕ) where
+  first-best : (w : Word) → First cost lim (listOf n) w → IsBest n lim cost (chainOf w)
   unfolding Better position
   first-best w f =
       record {
@@ -266,7 +266,7 @@ module _ (n : ℕ) (lim : Limits) (π : Prices) where
       is-word : wordOf (chainOf w) ≡ w
       is-word = word-chain-word w (readers-good w .1 (list-of-chains n w .0 (f .member) .0))
 
-      other : (c : List Part) → ChainOf n c → c ≢ chainOf w → (wordOf c ≡ w) ⊎ Ahead π w (wordOf c) → Better n π (chainOf w) c
+      other : (c : List Part) → ChainOf n c → c ≢ chainOf w → (wordOf c ≡ w) ⊎ Ahead cost w (wordOf c) → Better n cost (chainOf w) c
       other c h d (inl e) = absurd (d (sym (chain-word-chain c (h .chained)) ∙ ap chainOf e))
       other c h d (inr (inl k)) = inl (rw (chain-word-chain c (h .chained)) at k)
       other c h d (inr (inr (e, inl k))) =
@@ -283,33 +283,33 @@ module _ (n : ℕ) (lim : Limits) (π : Prices) where
   -- What an answer tells of the chains of n.
   abbrev pub Answers : Option (List Part) → Type 0
   Answers none = NoneFits n lim
-  Answers (some c) = IsBest n lim π c
+  Answers (some c) = IsBest n lim cost c
 
-  pub answers : Answers (bestChain n lim π)
+  pub answers : Answers (bestChain n lim cost)
   unfolding bestChain listOf
-  answers = go (bestAmong lim π (listOf n)) (told π lim (listOf n) (words-ascend true n))
+  answers = go (bestAmong lim cost (listOf n)) (told cost lim (listOf n) (words-ascend true n))
     where
-      go : (o : Option (List Part)) → Told π lim (listOf n) o → Answers o
+      go : (o : Option (List Part)) → Told cost lim (listOf n) o → Answers o
       go none h = λ c k b. h (wordOf c) (chain-listed n c k) (rw (chain-word-chain c (k .chained)) (within-tested lim c .1 b))
       go (some c) (w, e, f) = rw e (first-best w f)
 
   -- It is a chain exactly if that is the best chain of n within the limits,
-  pub best-chain : (c : List Part) → (bestChain n lim π ≡ some c) ↔ IsBest n lim π c
-  best-chain c = (λ e. rw e at answers, go (bestChain n lim π) answers)
+  pub best-chain : (c : List Part) → (bestChain n lim cost ≡ some c) ↔ IsBest n lim cost c
+  best-chain c = (λ e. rw e at answers, go (bestChain n lim cost) answers)
     where
-      go : (o : Option (List Part)) → Answers o → IsBest n lim π c → o ≡ some c
+      go : (o : Option (List Part)) → Answers o → IsBest n lim cost c → o ≡ some c
       go none h b = absurd (h c (b .chain) (b .within))
-      go (some c′) h b = ap some (best-unique n lim π c′ c h b)
+      go (some c′) h b = ap some (best-unique n lim cost c′ c h b)
 
   -- and none exactly if no chain of n is within the limits.
-  pub best-none : (bestChain n lim π ≡ none) ↔ NoneFits n lim
-  best-none = (λ e. rw e at answers, go (bestChain n lim π) answers)
+  pub best-none : (bestChain n lim cost ≡ none) ↔ NoneFits n lim
+  best-none = (λ e. rw e at answers, go (bestChain n lim cost) answers)
     where
       go : (o : Option (List Part)) → Answers o → NoneFits n lim → o ≡ none
       go none h f = refl
       go (some c) h f = absurd (f c (h .chain) (h .within))
 
--- The best chain of 0 is the empty one, for all limits and prices.
-pub best-of-zero : (lim : Limits) (π : Prices) → bestChain 0 lim π ≡ some []
+-- The best chain of 0 is the empty one, for all limits and costs.
+pub best-of-zero : (lim : Limits) (cost : List Part → ℕ) → bestChain 0 lim cost ≡ some []
 unfolding bestChain bestAmong sooner isWithin listOf wordsAt wordsIn atRest chainOf chainFrom
-best-of-zero lim π = refl
+best-of-zero lim cost = refl

@@ -1,10 +1,9 @@
 -- The best chain over all chains of n is that of the best word: document 01, 'Services and memory'; demand 3.
 --
--- First the definitions: the costs of letters for document 01's prices, where a part counts M, and the chain that they choose
+-- First the definitions: the costs of letters for the four prices, where a part counts M, and the chain that they choose
 -- (`leastKeyed`). Then: the key of a word is M for each part of its chain, and the chain's price (`key-price`); the limits on a
--- word; how high a price can be (`price-fits`: below 2^32 for a number of 64 bits and prices of 16); the first word of least key
--- has the earliest position. Last the theorem of record: where no price reaches M, the chain of least key is the best chain
--- (`keyed-is-best`).
+-- word; the first word of least key has the earliest position. Last the theorem of record: where no price reaches M, the chain of
+-- least key is the best chain (`keyed-is-best`).
 --
 -- The best word is defined in Keys and found in Bests; price, limits and the best chain are defined in Best.
 use mathlib.Core.Path.{_≡_, refl, sym, ap, _∙_}
@@ -12,7 +11,7 @@ use mathlib.Core.Logic.{_↔_, _≢_, _⊎_, inl, inr, ⊎-elim}
 use mathlib.Core.Bool.{Bool, true, false, cond}
 use mathlib.Core.List.{List, [], _∷_, List·Memᴰ}
 use mathlib.Core.Option.{Option, none, some}
-use Prim.Native.Nat.{ℕ, zero, suc, _+_, _*_, _^_, _≤_, _<_}
+use Prim.Native.Nat.{ℕ, zero, suc, _+_, _*_, _≤_, _<_}
 use native.Mathlib.Nat.{mul-suc, mul-le-mul-left}
 use native.Mathlib.Decide.{decLt}
 use native.Mathlib.Omega.{arith}
@@ -24,25 +23,25 @@ use borrow.Author.Tests.{leb-true, leb-false}
 use Rattle.chains.specs.Chains.{Part, ChainOf}
 use Rattle.chains.specs.Words.{Word, origin, wordOf, right, up, chainFrom, chainOf, someLeft, reads}
 use Rattle.chains.specs.Listing.{wordsAt, listOf, countBefore, position}
-use Rattle.chains.specs.Best.{Prices, price, Limits, Within, Better, IsBest, bestChain}
+use Rattle.chains.specs.Best.{Prices, additions, price, Limits, Within, Better, IsBest, bestChain}
 use Rattle.chains.specs.BestLaws.{Answers, best-chain, best-none}
 use Rattle.chains.specs.Weight.{weight, total-chainOf}
 use Rattle.chains.specs.Members.{member-words, getD-member}
 use Rattle.chains.specs.Listed.{chain-listed}
 use Rattle.chains.specs.Positions.{words-position, words-at-position}
 use Rattle.chains.specs.RoundTrip.{chain-word-chain, word-reads, word-chained, word-chain-word}
-use Rattle.chains.specs.Bounds.{parts-bound, word-bound, word-length}
+use Rattle.chains.specs.PriceLaws.{no-addition, addition-2, addition-3, one-part, ends-in-3}
 use Rattle.chains.specs.Keys.{Costs, key, next, lastPoint, inGrid, bestAt}
 use Rattle.chains.specs.Bests.{FirstLeast, Found, first-member, first-no-less, inside-bounds, best-found}
 
 -- ---- the chain that the costs choose
 
--- What a letter costs that is not the last: a part M and an addition s, a rise of a d, a rise of b t.
+-- What a letter costs that is not the last: a part M and its addition s2 or s3, a rise of a d, a rise of b t.
 unfoldable pub letterCost : ℕ → Prices → ℕ → ℕ
 letterCost M π zero = π .d
-letterCost M π (suc zero) = M + π .s + π .d
+letterCost M π (suc zero) = M + π .s2 + π .d
 letterCost M π (suc (suc zero)) = π .t
-letterCost M π (suc (suc (suc zero))) = M + π .s + π .t
+letterCost M π (suc (suc (suc zero))) = M + π .s3 + π .t
 letterCost M π (suc (suc (suc (suc l)))) = 0
 
 -- The last point is a part, with no addition after it.
@@ -61,9 +60,9 @@ leastKeyed M n lim π = upTo (lim .K) (bestAt (costsOf M π) (lim .A) (lim .B) t
 -- ---- the key and the end of a word
 
 module _ (M : ℕ) (π : Prices) where
-  -- What the walk to p costs with k parts met before it.
+  -- What the walk to p costs with k parts met before it, their additions apart.
   paid : Part → ℕ → ℕ
-  paid p k = M * k + (π .d * p .a + π .t * p .b + π .s * k)
+  paid p k = M * k + (π .d * p .a + π .t * p .b)
 
   paid-right : (p : Part) (k : ℕ) → paid (right p) k ≡ π .d + paid p k
   unfolding paid right
@@ -73,20 +72,20 @@ module _ (M : ℕ) (π : Prices) where
   unfolding paid up
   paid-up p k = rw (mul-suc (π .t) (p .b)) (omega arith)
 
-  paid-part : (p : Part) (k : ℕ) → paid p (suc k) ≡ M + π .s + paid p k
+  paid-part : (p : Part) (k : ℕ) → paid p (suc k) ≡ M + paid p k
   unfolding paid
-  paid-part p k = rw (mul-suc M k, mul-suc (π .s) k) (omega arith)
+  paid-part p k = rw (mul-suc M k) (omega arith)
 
-  -- The letters w lead from p to the largest part, and their key is what the walk there adds.
+  -- The letters w lead from p to the largest part. Their key is what the walk there adds, with their additions.
   record Walked (p : Part) (met : List Part) (w : Word) : Type 0 where
     below : List Part
     chain : chainFrom p met w ≡ lastPoint p w ∷ below
-    costs : key (costsOf M π) w + paid p (length met) ≡ M + paid (lastPoint p w) (length below)
+    costs : key (costsOf M π) w + paid p (length met) ≡ M + paid (lastPoint p w) (length below) + additions π w
 
   further :
       (p : Part) (met met′ : List Part) (l x : ℕ) (w : Word)
       → chainFrom p met (l ∷ x ∷ w) ≡ chainFrom (next l p) met′ (x ∷ w)
-      → letterCost M π l + paid p (length met) ≡ paid (next l p) (length met′)
+      → letterCost M π l + paid p (length met) + additions π (x ∷ w) ≡ paid (next l p) (length met′) + additions π (l ∷ x ∷ w)
       → Walked (next l p) met′ (x ∷ w)
       → Walked p met (l ∷ x ∷ w)
   unfolding lastPoint key costsOf
@@ -97,21 +96,24 @@ module _ (M : ℕ) (π : Prices) where
   walked f p met [] h s = absurd s
   walked f p met (zero ∷ []) h s = absurd h
   walked f p met (zero ∷ x ∷ w) h s =
-      further p met met 0 x w refl (sym (paid-right p (length met))) (walked false (right p) met (x ∷ w) h tt)
+      further p met met 0 x w refl
+      (omega (arith, paid-right p (length met), no-addition π 0 (x ∷ w) refl refl))
+      (walked false (right p) met (x ∷ w) h tt)
   walked f p met (suc zero ∷ []) h s = absurd h
   walked f p met (suc zero ∷ x ∷ w) h s =
       further p met (p ∷ met) 1 x w refl
-      (omega (arith, paid-right p (suc (length met)), paid-part p (length met)))
+      (omega (arith, paid-right p (suc (length met)), paid-part p (length met), addition-2 π (x ∷ w)))
       (walked false (right p) (p ∷ met) (x ∷ w) h tt)
   walked f p met (suc (suc zero) ∷ []) h s = absurd (and-yes f false h .1)
   walked f p met (suc (suc zero) ∷ x ∷ w) h s =
       further p met met 2 x w refl
-      (sym (paid-up p (length met)))
+      (omega (arith, paid-up p (length met), no-addition π 2 (x ∷ w) refl refl))
       (walked true (up p) met (x ∷ w) (and-yes f (reads true (x ∷ w)) h .1) tt)
-  walked f p met (suc (suc (suc zero)) ∷ []) h s = record { below = met; chain = refl; costs = refl }
+  walked f p met (suc (suc (suc zero)) ∷ []) h s =
+      record { below = met; chain = refl; costs = omega (arith, one-part π) }
   walked f p met (suc (suc (suc zero)) ∷ x ∷ w) h s =
       further p met (p ∷ met) 3 x w refl
-      (omega (arith, paid-up p (suc (length met)), paid-part p (length met)))
+      (omega (arith, paid-up p (suc (length met)), paid-part p (length met), addition-3 π (x ∷ w) (ends-in-3 (x ∷ w) true h tt)))
       (walked true (up p) (p ∷ met) (x ∷ w) h tt)
   walked f p met (suc (suc (suc (suc l))) ∷ w) h s = absurd h
 
@@ -121,7 +123,8 @@ module _ (M : ℕ) (π : Prices) where
   key-price [] h = omega arith
   key-price (l ∷ w) h =
       let r = walked true origin [] (l ∷ w) h tt in
-      rw (r .chain) (rw (mul-suc M (length (r .below))) (omega (arith, r .costs)))
+      let same : additions π (wordOf (chainOf (l ∷ w))) ≡ additions π (l ∷ w) = ap (additions π) (word-chain-word (l ∷ w) h) in
+      rw (r .chain) (rw (mul-suc M (length (r .below))) (omega (arith, r .costs, rw (r .chain) at same)))
 
   -- The chain of a word is within the limits if it has at most K parts and the word ends in the grid.
   within-word :
@@ -134,34 +137,6 @@ module _ (M : ℕ) (π : Prices) where
       let r = walked true origin [] (l ∷ w) h tt in
       let i = inside-bounds (lim .A) (lim .B) (lastPoint origin (l ∷ w)) in
       rw (r .chain) (λ b. (b .0, i .1 (b .1, b .2)), λ b. (b .0, i .0 (b .1) .0, i .0 (b .1) .1))
-
--- ---- how high a price can be
-
-pub price-within :
-    (π : Prices) (lim : Limits) (c : List Part) → Within lim c → price π c ≤ π .d * lim .A + π .t * lim .B + π .s * lim .K
-unfolding Within price
-price-within π lim [] h = omega arith
-price-within π lim (p ∷ c) h =
-    let k : length c ≤ lim .K = omega arith in
-    omega (arith, mul-le-mul-left (π .d) (h .1), mul-le-mul-left (π .t) (h .2), mul-le-mul-left (π .s) k)
-
--- A price fits in 32 bits: document 01, 'Parts and chains'.
-pub price-fits :
-    (n : ℕ) (π : Prices)
-    → n < 2 ^ 64
-    → π .d < 2 ^ 16
-    → π .t < 2 ^ 16
-    → π .s < 2 ^ 16
-    → (c : List Part)
-    → ChainOf n c
-    → price π c < 2 ^ 32
-unfolding price Within
-price-fits n π h d t s [] k = omega arith
-price-fits n π h d t s (p ∷ c) k =
-    let parts = parts-bound n 64 (p ∷ c) k h in
-    let letters = word-bound n 64 (p ∷ c) k h in
-    let points = word-length p c (k .chained) in
-    omega (arith, price-within π (record { K = 64; A = 63; B = 63 }) (p ∷ c) (omega arith))
 
 -- ---- positions
 
@@ -266,7 +241,7 @@ module _ (M n : ℕ) (lim : Limits) (π : Prices) (cheap : (c : List Part) → C
         (omega (arith, key-price M π w (listed .0), cost-chain c h, ap (λ (k : ℕ). M * k) e))
         (λ (q : wordOf c ≡ w). d (sym (chain-word-chain c (h .chained)) ∙ ap chainOf q)))
 
-    is-best : length (chainOf w) ≤ lim .K → IsBest n lim π (chainOf w)
+    is-best : length (chainOf w) ≤ lim .K → IsBest n lim (price π) (chainOf w)
     unfolding Better
     is-best k =
         record {
@@ -282,12 +257,12 @@ module _ (M n : ℕ) (lim : Limits) (π : Prices) (cheap : (c : List Part) → C
             → c ≢ chainOf w
             → Dec (price π (chainOf w) < price π c)
             → (length (chainOf w) < length c) ⊎ ((length (chainOf w) ≡ length c) × (price π (chainOf w) ≤ price π c))
-            → Better n π (chainOf w) c
+            → Better n (price π) (chainOf w) c
         go c h b d p (inl l) = inl l
         go c h b d (yes p) (inr e) = inr (e .0, inl p)
         go c h b d (no p) (inr e) = inr (e .0, inr (omega arith, later c h b d (e .0) (omega arith)))
 
-  told : Answers n lim π (leastKeyed M n lim π)
+  told : Answers n lim (price π) (leastKeyed M n lim π)
   unfolding leastKeyed upTo listOf
   told = go (bestAt (costsOf M π) (lim .A) (lim .B) true origin n) (best-found (costsOf M π) (lim .A) (lim .B) true origin n)
     where
@@ -296,7 +271,7 @@ module _ (M n : ℕ) (lim : Limits) (π : Prices) (cheap : (c : List Part) → C
           → FirstLeast ends cost (wordsAt true n) w
           → (b : Bool)
           → leb (length (chainOf w)) (lim .K) ≡ b
-          → Answers n lim π (cond b (some (chainOf w)) none)
+          → Answers n lim (price π) (cond b (some (chainOf w)) none)
       parts w r true e = is-best w r (leb-true (length (chainOf w)) (lim .K) e)
       parts w r false e =
           λ c h b.
@@ -306,14 +281,14 @@ module _ (M n : ℕ) (lim : Limits) (π : Prices) (cheap : (c : List Part) → C
           (λ (l : (length (chainOf w) ≡ length c) × (price π (chainOf w) ≤ price π c)). omega (arith, leb-false))
           (no-better w r c h b)
 
-      go : (o : Option Word) → Found ends cost (wordsAt true n) o → Answers n lim π (upTo (lim .K) o)
+      go : (o : Option Word) → Found ends cost (wordsAt true n) o → Answers n lim (price π) (upTo (lim .K) o)
       go none f = λ c h b. f (wordOf c) (chain-listed n c h) (fits c h .0 b .1)
       go (some w) r = parts w r (leb (length (chainOf w)) (lim .K)) refl
 
   -- The chain of least key is the best chain; there is none where no chain is within the limits.
-  pub keyed-is-best : leastKeyed M n lim π ≡ bestChain n lim π
+  pub keyed-is-best : leastKeyed M n lim π ≡ bestChain n lim (price π)
   keyed-is-best = go (leastKeyed M n lim π) told
     where
-      go : (o : Option (List Part)) → Answers n lim π o → o ≡ bestChain n lim π
-      go none f = sym (best-none n lim π .1 f)
-      go (some c) b = sym (best-chain n lim π c .1 b)
+      go : (o : Option (List Part)) → Answers n lim (price π) o → o ≡ bestChain n lim (price π)
+      go none f = sym (best-none n lim (price π) .1 f)
+      go (some c) b = sym (best-chain n lim (price π) c .1 b)

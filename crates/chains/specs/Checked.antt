@@ -35,7 +35,7 @@ free = record { K = 64; A = 63; B = 40 }
 unfoldable pub Holds : Entry → Type 0
 Holds (chains n k) = count n ≡ k
 Holds (words n l) = listOf n ≡ l
-Holds (best n k) = (π : Prices) → (c : List Part) × IsBest n free π c × (length c ≡ k)
+Holds (best n k) = (π : Prices) → (c : List Part) × IsBest n free (price π) c × (length c ≡ k)
 
 -- The numbers marked ●.
 unfoldable pub table : List Entry
@@ -121,11 +121,11 @@ best-has :
     → Within free c
     → length c ≡ k
     → ((c′ : List Part) → ChainOf n c′ → k ≤ length c′)
-    → (c′ : List Part) × IsBest n free π c′ × (length c′ ≡ k)
+    → (c′ : List Part) × IsBest n free (price π) c′ × (length c′ ≡ k)
 unfolding Better
-best-has n k π c h w e fewest = go (bestChain n free π) (answers n free π)
+best-has n k π c h w e fewest = go (bestChain n free (price π)) (answers n free (price π))
   where
-    parts : (c′ : List Part) → IsBest n free π c′ → Dec (length c′ ≡ k) → length c′ ≡ k
+    parts : (c′ : List Part) → IsBest n free (price π) c′ → Dec (length c′ ≡ k) → length c′ ≡ k
     parts c′ b (yes d) = d
     parts c′ b (no d) =
         ⊎-elim
@@ -134,7 +134,7 @@ best-has n k π c h w e fewest = go (bestChain n free π) (answers n free π)
         l .0 ∙ e)
         (b .best c h w (λ (q : c ≡ c′). d (sym (ap length q) ∙ e)))
 
-    go : (o : Option (List Part)) → Answers n free π o → (c′ : List Part) × IsBest n free π c′ × (length c′ ≡ k)
+    go : (o : Option (List Part)) → Answers n free (price π) o → (c′ : List Part) × IsBest n free (price π) c′ × (length c′ ≡ k)
     go none f = absurd (f c h w)
     go (some c′) b = (c′, b, parts c′ b (ℕ-discrete (length c′) k))
 

@@ -16,6 +16,8 @@
 --   Rest       the rest at a point is the floor of n by the point's value
 --   Bounds     how many letters and parts a number below 2^k allows
 --   BestLaws   the best chain as a function is the best of all chains: demand 3
+--   PriceLaws  the additions of a chain, and how high its price can be
+--   OnePrice   where s2 and s3 are the same, the price is the one of document 01
 --   Counts     the six relations of the count, and its bounds
 --   Keys       costs of letters, the cut grid, the best word at a point (definitions)
 --   Bests      the best word from the best words of the half and the third, over any costs
@@ -39,6 +41,8 @@ pub mod PositionsOfChains
 pub mod Rest
 pub mod Bounds
 pub mod BestLaws
+pub mod PriceLaws
+pub mod OnePrice
 pub mod Counts
 pub mod Keys
 pub mod Bests

@@ -12,7 +12,7 @@ use lib.ListN.{length}
 use Rattle.chains.specs.Chains.{Part}
 use Rattle.chains.specs.Listing.{position}
 use Rattle.chains.specs.Best.{price, NoneFits, IsBest}
-use Rattle.chains.specs.BestOfAll.{price-fits}
+use Rattle.chains.specs.PriceLaws.{price-fits}
 use Rattle.parts.specs.Parts.{partNumber}
 use Rattle.ranking.specs.Services.{Outcome, refused, gives}
 use Rattle.best.specs.Chosen.{bestOutcome}
@@ -32,18 +32,18 @@ use Rattle.frames.specs.LineTrips.{Leads, chain-leads}
 -- The best chain that the line asks for, and the digits of its reply.
 pub record BestReply (line ds : List ℕ) : Type 0 where
   pub chain : List Part
-  pub best : IsBest (field line 1 8) (limitsIn line) (pricesIn line) chain
+  pub best : IsBest (field line 1 8) (limitsIn line) (price (pricesIn line)) chain
   pub digits : ds ≡ pricedDigits (field line 1 8) (position (field line 1 8) chain) (map partNumber chain) (price (pricesIn line) chain)
 
 abbrev asked : List ℕ → Outcome
-asked line = bestOutcome (field line 1 8) (limitsIn line) (pricesIn line)
+asked line = bestOutcome (field line 1 8) (limitsIn line) (price (pricesIn line))
 
 module _ (line : List ℕ) (f : shapeOf line ≡ fit best-line) where
-  reply : replyTo line ≡ pricedReply (pricesIn line) (asked line)
+  reply : replyTo line ≡ pricedReply (price (pricesIn line)) (asked line)
   unfolding served
   reply = reply-fit line best-line f
 
-  is-best : (c : List Part) → (asked line ≡ gives (field line 1 8) c) ↔ IsBest (field line 1 8) (limitsIn line) (pricesIn line) c
+  is-best : (c : List Part) → (asked line ≡ gives (field line 1 8) c) ↔ IsBest (field line 1 8) (limitsIn line) (price (pricesIn line)) c
   is-best = given-is-best (field line 1 8) (limitsIn line) (pricesIn line)
 
   none-fits : (asked line ≡ refused 5) ↔ NoneFits (field line 1 8) (limitsIn line)
@@ -56,7 +56,7 @@ module _ (line : List ℕ) (f : shapeOf line ≡ fit best-line) where
       there : replyTo line ≡ servedWith ds → BestReply line ds
       there e = go (asked line) refl
         where
-          told : pricedReply (pricesIn line) (asked line) ≡ servedWith ds
+          told : pricedReply (price (pricesIn line)) (asked line) ≡ servedWith ds
           told = sym reply ∙ e
 
           go : (o : Outcome) → asked line ≡ o → BestReply line ds
@@ -75,7 +75,7 @@ module _ (line : List ℕ) (f : shapeOf line ≡ fit best-line) where
       there : replyTo line ≡ refusedAs r → (r ≡ 5) × NoneFits (field line 1 8) (limitsIn line)
       there e = go (asked line) refl
         where
-          told : pricedReply (pricesIn line) (asked line) ≡ refusedAs r
+          told : pricedReply (price (pricesIn line)) (asked line) ≡ refusedAs r
           told = sym reply ∙ e
 
           go : (o : Outcome) → asked line ≡ o → (r ≡ 5) × NoneFits (field line 1 8) (limitsIn line)
@@ -94,7 +94,8 @@ prices-cheap line =
     record {
       d = omega (arith, field-below line 12 2);
       t = omega (arith, field-below line 14 2);
-      s = omega (arith, field-below line 16 2);
+      s2 = omega (arith, field-below line 16 2);
+      s3 = omega (arith, field-below line 18 2);
     }
 
 module _ (line ds : List ℕ) (b : BestReply line ds) where
@@ -105,7 +106,7 @@ module _ (line ds : List ℕ) (b : BestReply line ds) where
       let n = field line 1 8 in
       let c = b .chain in
       let cheap = prices-cheap line in
-      let low = price-fits n (pricesIn line) (number-low line 1) (cheap .d) (cheap .t) (cheap .s) c (b .best .chain) in
+      let low = price-fits n (pricesIn line) (number-low line 1) (cheap .d) (cheap .t) (cheap .s2) (cheap .s3) c (b .best .chain) in
       let cost = price (pricesIn line) c in
       rw (b .digits) (
         reply-read n c (digitsOf 8 cost) (b .best .chain) (number-low line 1),

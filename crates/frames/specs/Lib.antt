@@ -8,6 +8,7 @@
 --   CaseBlind    the case of letters makes no difference to a reply, and replies keep capitals
 --   LineTrips    demand 2, line by line
 --   BestLines    demand 3, line by line
+--   EarlierLines  lines of kind 02 with one price for an addition: refused now, and what they get with that price twice
 --   RunLines     lines of kind 07: the residue is n × x modulo m, for the chain of any reply too
 --   Put, Calls   what the functions inside this crate ask for and leave; PutLaws is the theory of digits put one after the other
 pub mod ReplyDigits
@@ -20,6 +21,7 @@ pub mod Refusals
 pub mod CaseBlind
 pub mod LineTrips
 pub mod BestLines
+pub mod EarlierLines
 pub mod RunLines
 pub mod Put
 pub mod PutLaws

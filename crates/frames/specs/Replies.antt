@@ -1,5 +1,5 @@
 -- The reply to a line, from the line's characters alone: document 01, 'Frames' and 'What a refused line or call gets'; document 02,
--- T-02. It is a function of the line: neither the lines before it nor what the lent memory held has a part in it.
+-- T-02 and T-04. It is a function of the line: neither the lines before it nor what the lent memory held has a part in it.
 --
 -- In this order: replies and their digits; the replies of each kind, and what they can be; the reply to a line; what a call answers
 -- and leaves behind.
@@ -9,6 +9,7 @@ use mathlib.Core.Bool.{Bool, true, false, cond}
 use mathlib.Core.List.{List, [], _∷_, map}
 use Prim.Native.Nat.{ℕ}
 use lib.ListN.{length}
+use Rattle.chains.specs.Chains.{Part}
 use Rattle.chains.specs.Listing.{count, position}
 use Rattle.chains.specs.Best.{Prices, Limits, price}
 use Rattle.parts.specs.Parts.{partNumber}
@@ -42,10 +43,10 @@ unfoldable pub chainReply : Outcome → Reply
 chainReply (refused r) = refusedAs r
 chainReply (gives n c) = servedWith (chainDigits n (position n c) (map partNumber c))
 
--- The same with the chain's price.
-unfoldable pub pricedReply : Prices → Outcome → Reply
-pricedReply π (refused r) = refusedAs r
-pricedReply π (gives n c) = servedWith (pricedDigits n (position n c) (map partNumber c) (price π c))
+-- The same with what the chain costs.
+unfoldable pub pricedReply : (List Part → ℕ) → Outcome → Reply
+pricedReply cost (refused r) = refusedAs r
+pricedReply cost (gives n c) = servedWith (pricedDigits n (position n c) (map partNumber c) (cost c))
 
 -- The refusal of a run, or its residue.
 unfoldable pub ranReply : Ran → Reply
@@ -54,12 +55,12 @@ ranReply (ran.Residue x) = servedWith (singleDigits x)
 
 -- ---- the replies of each kind, and what they can be
 
--- What a line of kind 02 asks for after n: K, A, B, then d, t, s.
+-- What a line of kind 02 asks for after n: K, A, B, then d, t, s2, s3.
 unfoldable pub limitsIn : List ℕ → Limits
 limitsIn line = record { K = field line 9 1; A = field line 10 1; B = field line 11 1 }
 
 unfoldable pub pricesIn : List ℕ → Prices
-pricesIn line = record { d = field line 12 2; t = field line 14 2; s = field line 16 2 }
+pricesIn line = record { d = field line 12 2; t = field line 14 2; s2 = field line 16 2; s3 = field line 18 2 }
 
 -- What a line of kind 07 asks for before its part numbers: the modulus m and the residue x.
 abbrev pub modulusIn : List ℕ → ℕ
@@ -71,7 +72,8 @@ residueIn line = field line 9 8
 -- The reply to a fit line of a kind, by the services' own definitions.
 unfoldable pub served : Kind → List ℕ → Reply
 served count-line line = servedWith (singleDigits (count (field line 1 8)))
-served best-line line = pricedReply (pricesIn line) (bestOutcome (field line 1 8) (limitsIn line) (pricesIn line))
+served best-line line =
+    pricedReply (price (pricesIn line)) (bestOutcome (field line 1 8) (limitsIn line) (price (pricesIn line)))
 served at-line line = chainReply (atPosition (field line 1 8) (field line 9 8))
 served record-line line = chainReply (ofRecord (itemsIn record-line line))
 served word-line line = chainReply (ofWord (itemsIn word-line line))

@@ -98,25 +98,25 @@ next-sound w =
 
 -- The best chain of n is a chain of n, and 5 the only refusal.
 module _ (n : ℕ) (lim : Limits) (π : Prices) where
-  by-best : (P : Outcome → Type 0) → P (refused 5) → ((c : List Part) → P (gives n c)) → P (bestOutcome n lim π)
+  by-best : (P : Outcome → Type 0) → P (refused 5) → ((c : List Part) → P (gives n c)) → P (bestOutcome n lim (price π))
   unfolding bestOutcome orNone
-  by-best P none-given given = go (bestChain n lim π)
+  by-best P none-given given = go (bestChain n lim (price π))
     where
       go : (b : Option (List Part)) → P (orNone n b)
       go none = none-given
       go (some c) = given c
 
-  pub best-number : (m : ℕ) (c : List Part) → bestOutcome n lim π ≡ gives m c → m ≡ n
+  pub best-number : (m : ℕ) (c : List Part) → bestOutcome n lim (price π) ≡ gives m c → m ≡ n
   best-number m c =
       by-best (λ (o : Outcome). o ≡ gives m c → m ≡ n) (λ e. let z : _≡_ {A = ℕ} 0 1 = cc in absurd (omega arith)) (λ d e. cc)
 
-  pub best-five : (r : ℕ) → bestOutcome n lim π ≡ refused r → r ≡ 5
+  pub best-five : (r : ℕ) → bestOutcome n lim (price π) ≡ refused r → r ≡ 5
   best-five r =
       by-best (λ (o : Outcome). o ≡ refused r → r ≡ 5) (λ e. cc) (λ d e. let z : _≡_ {A = ℕ} 0 1 = cc in absurd (omega arith))
 
-  best-sound : n < 2 ^ 64 → Sound (5 ∷ []) (bestOutcome n lim π)
+  best-sound : n < 2 ^ 64 → Sound (5 ∷ []) (bestOutcome n lim (price π))
   best-sound f =
-      sound _ (bestOutcome n lim π) best-five
+      sound _ (bestOutcome n lim (price π)) best-five
       (λ m c e. let same = best-number m c e in (rw same (given-is-best n lim π c .0 (rw same at e) .chain), omega arith))
 
 -- ---- frames
@@ -179,11 +179,11 @@ chained (gives n c) s =
     let f = chain-frame n (position n c) (map partNumber c) (few-numbers n c (s .0) (s .1)) in
     record { framed = f; refusal = tt; chain = λ t. (gives n c, s, refl) }
 
-priced : {rs : List ℕ} (π : Prices) (o : Outcome) → Sound rs o → Made (replyRow rs false) (pricedReply π o)
+priced : {rs : List ℕ} (cost : List Part → ℕ) (o : Outcome) → Sound rs o → Made (replyRow rs false) (pricedReply cost o)
 unfolding pricedReply digitsIn
-priced π (refused r) s = plain (refusedAs r) (refusal-frame r) s
-priced π (gives n c) s =
-    plain _ (priced-frame n (position n c) (map partNumber c) (few-numbers n c (s .0) (s .1)) (price π c)) tt
+priced cost (refused r) s = plain (refusedAs r) (refusal-frame r) s
+priced cost (gives n c) s =
+    plain _ (priced-frame n (position n c) (map partNumber c) (few-numbers n c (s .0) (s .1)) (cost c)) tt
 
 ran-made : {rs : List ℕ} (a : Ran) → ((r : ℕ) → a ≡ ran.Refused r → OneOf r rs) → Made (replyRow rs false) (ranReply a)
 unfolding ranReply digitsIn
@@ -197,7 +197,7 @@ number-low line at = omega (arith, field-below line at 8)
 pub made : (k : Kind) (line : List ℕ) → Made (replyRowOf k) (served k line)
 unfolding replyRowOf served digitsIn
 made count-line line = plain _ (single-frame (count (field line 1 8))) tt
-made best-line line = priced (pricesIn line) _ (best-sound (field line 1 8) (limitsIn line) (pricesIn line) (number-low line 1))
+made best-line line = priced (price (pricesIn line)) _ (best-sound (field line 1 8) (limitsIn line) (pricesIn line) (number-low line 1))
 made at-line line = chained _ (at-sound (field line 1 8) (field line 9 8) (number-low line 1))
 made record-line line = chained _ (record-sound (itemsIn record-line line))
 made word-line line = chained _ (word-sound (itemsIn word-line line))

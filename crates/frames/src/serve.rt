@@ -11,9 +11,10 @@ use running::Ran;
 ghost use mathlib.Core.Path.{_≡_};
 ghost use Prim.Native.Nat.{_≤_};
 ghost use lib.ListN.{length};
+ghost use Rattle.chains.specs.Best.{price};
 ghost use Rattle.lent.specs.Lent.{tooLittle, Enough, scratchLeft};
 ghost use Rattle.ranking.specs.Services.{lent, placesLeft};
-ghost use Rattle.best.specs.Chosen.{bestOutcome, chosenOf};
+ghost use Rattle.best.specs.Chosen.{limitsOf, pricesOf, bestOutcome, chosenOf};
 ghost use Rattle.running.specs.Ran.{ranOf};
 ghost use Rattle.frames.specs.Calls.{Told, Handled, FitAs, readOnly};
 ghost use Rattle.frames.specs.Replies.{refusedAs, limitsIn, pricesIn, modulusIn, residueIn, served, replyTo};
@@ -42,36 +43,52 @@ pub fn serve_count(line: &[u8], scratch: &mut [u64], out: &mut [u8]) -> Replied
     }
 }
 
-// The best chain of n within the limits and by the prices of a line of kind 02.
+// The limits and the prices of a line of kind 02. The limits stand side by side and are read at once: with a call for each, the
+// compiled loop over the rows of keys takes longer.
+fn limits_in(line: &[u8]) -> Limits
+    requires { ⌜ Fit (now line) best-line ⌝ }
+    ensures { λ r. ⌜ limitsOf r ≡ limitsIn (now (line .entry)) ⌝ }
+{
+    let three = lines::field_of(line, 9, 3);
+    Limits {
+        parts: (three / 65536 % 256) as u8,
+        doublings: (three / 256 % 256) as u8,
+        triplings: (three % 256) as u8,
+    }
+}
+
+fn prices_in(line: &[u8]) -> Prices
+    ensures { λ r. ⌜ pricesOf r ≡ pricesIn (now (line .entry)) ⌝ }
+{
+    Prices {
+        doubling: lines::pair_of(line, 12),
+        tripling: lines::pair_of(line, 14),
+        addition_2: lines::pair_of(line, 16),
+        addition_3: lines::pair_of(line, 18),
+    }
+}
+
+// The best chain of n that such a line asks for.
 fn best_in(n: u64, line: &[u8], scratch: &mut [u64], places: &mut [u16]) -> Chosen
+    requires { ⌜ Fit (now line) best-line ⌝ }
     ensures { λ r. ⌜ r
-        ≡ chosenOf (pricesIn (now (line .entry)))
+        ≡ chosenOf (price (pricesIn (now (line .entry))))
         (lent (now (scratch .entry)) (now (places .entry))
-        (bestOutcome n (limitsIn (now (line .entry))) (pricesIn (now (line .entry))))) ⌝ }
+        (bestOutcome n (limitsIn (now (line .entry))) (price (pricesIn (now (line .entry)))))) ⌝ }
     ensures { λ _. ⌜ now (places .exit)
         ≡ placesLeft
         (lent (now (scratch .entry)) (now (places .entry))
-        (bestOutcome n (limitsIn (now (line .entry))) (pricesIn (now (line .entry)))))
+        (bestOutcome n (limitsIn (now (line .entry))) (price (pricesIn (now (line .entry))))))
         (now (places .entry)) ⌝ }
     ensures { λ _. ⌜ now (scratch .exit)
         ≡ scratchLeft (tooLittle 64 (now (scratch .entry)) (now (places .entry))) (now (scratch .entry)) ⌝ }
 {
-    let limits = Limits {
-        parts: lines::byte_of(line, 9),
-        doublings: lines::byte_of(line, 10),
-        triplings: lines::byte_of(line, 11),
-    };
-    let prices = Prices {
-        doubling: lines::pair_of(line, 12),
-        tripling: lines::pair_of(line, 14),
-        addition: lines::pair_of(line, 16),
-    };
-    best::best_chain(n, limits, prices, scratch, places)
+    best::best_chain(n, limits_in(line), prices_in(line), scratch, places)
 }
 
 // 02: the best chain.
 pub fn serve_best(line: &[u8], scratch: &mut [u64], out: &mut [u8]) -> Replied
-    requires { ⌜ Enough 514 (now scratch) (now out) ⌝ }
+    requires { ⌜ Enough 514 (now scratch) (now out) × Fit (now line) best-line ⌝ }
     ensures { λ r. ⌜ Handled (served best-line (now (line .entry))) r
         (now (scratch .entry)) (now (scratch .exit)) (now (out .entry)) (now (out .exit)) ⌝ }
 {

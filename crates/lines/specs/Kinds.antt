@@ -1,4 +1,4 @@
--- The kinds of lines and how a line of each is laid out: document 01, 'Frames', and document 02, T-02. Nothing else says which
+-- The kinds of lines and how a line of each is laid out: document 01, 'Frames', and document 02, T-02 and T-04. Nothing else says which
 -- kinds there are.
 -- Definitions only.
 use mathlib.Core.Bool.{true, false}
@@ -28,7 +28,7 @@ row byte before countAt width = record { byte = byte; before = before; countAt =
 
 unfoldable pub rowOf : Kind → Row
 rowOf count-line = row 1 9 0 0
-rowOf best-line = row 2 18 0 0
+rowOf best-line = row 2 20 0 0
 rowOf at-line = row 3 17 0 0
 rowOf record-line = row 4 2 1 2
 rowOf word-line = row 5 2 1 1

@@ -7,16 +7,16 @@ use mathlib.Core.Bool.{Bool, true, false, cond, _&&_, _||_, or-true, and-eq-true
 use mathlib.Core.List.{List, [], _∷_, _++_}
 use mathlib.Core.Option.{Option, none, some}
 use Prim.Native.Nat.{ℕ, zero, suc, _+_, _*_, _-_, _%_, _^_, _≤_, _<_}
-use native.Mathlib.Nat.{mul-suc, mul-zero, add-zero, add-assoc, add-comm}
+use native.Mathlib.Nat.{mul-suc, mul-zero, mul-add, add-zero, add-assoc, add-comm}
 use native.Mathlib.Numerals.{add-one, add-two, add-three}
 use native.Mathlib.Omega.{arith}
 use borrow.Author.Tests.{eqb-true, eqb-false, eq-eqb, ne-eqb, ltb-true, ltb-false, lt-ltb, le-ltb, leb-true}
 use lib.Dec.{eqb, ltb, leb}
 use lib.ListN.{length, take, drop, getD, length-take, length-drop, drop-of-length-le}
-use lib.Seq.{take-all, take-nil, drop-cons}
+use lib.Seq.{take-all, take-nil, take-add, drop-cons, drop-drop}
 use Rattle.lent.specs.LentLaws.{neither}
 use Rattle.digits.specs.Digits.{valueOr0, allDigits, numberOf, readFrom}
-use Rattle.digits.specs.DigitLaws.{number-below, number-fits}
+use Rattle.digits.specs.DigitLaws.{number-append, number-below, number-fits}
 use Rattle.lines.specs.Kinds.{Kind, count-line, best-line, at-line, record-line, word-line, next-line, run-line}
 use Rattle.lines.specs.Kinds.{Row, rowOf, kinds, kindAmong, kindOf}
 use Rattle.lines.specs.Lines.{field, fields, bytesIn, itemsIn, Shape, unfit, fit, badLength, Proper, shapeOfKind, shapeOf}
@@ -38,6 +38,16 @@ field-below line at k = number-below (2 * k) (take (2 * k) (drop (2 * at) line))
 pub field-fits : (line : List ℕ) (at k : ℕ) → k ≤ 8 → field line at k % 2 ^ 64 ≡ field line at k
 unfolding field
 field-fits line at k h = number-fits (take (2 * k) (drop (2 * at) line)) (omega (arith, length-field line at k))
+
+-- Two fields one after the other are one field.
+pub field-split : (line : List ℕ) (at j k : ℕ) → 2 * at + 2 * (j + k) ≤ length line
+    → field line at (j + k) ≡ field line at j * 16 ^ (2 * k) + field line (at + j) k
+unfolding field
+field-split line at j k h =
+    let d = drop (2 * at) line in
+    let last = drop-drop (2 * j) (2 * at) line in
+    let size : length (take (2 * k) (drop (2 * at + 2 * j) line)) ≡ 2 * k = rw (length-take, length-drop) (omega arith) in
+    rw (mul-add 2 j k, take-add (2 * j) (2 * k) d, last, number-append, size, mul-add 2 at j)
 
 -- Past the end of the line: a field that begins there is 0, and one that runs past it is what is left of the line.
 pub field-past : (line : List ℕ) (at k : ℕ) → length line ≤ 2 * at → field line at k ≡ 0

@@ -85,7 +85,7 @@ fn row_of(kind: u8) -> Row
 {
     match kind {
         1 => row_with(9, 0, 0),
-        2 => row_with(18, 0, 0),
+        2 => row_with(20, 0, 0),
         3 => row_with(17, 0, 0),
         4 => row_with(2, 1, 2),
         5 => row_with(2, 1, 1),

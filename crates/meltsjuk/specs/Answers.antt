@@ -42,12 +42,12 @@ countOr (Refused r) x = x
 abbrev pub limitsOf : ℕ → ℕ → ℕ → Limits
 limitsOf K A B = record { K = K; A = A; B = B }
 
-abbrev pub pricesOf : ℕ → ℕ → ℕ → Prices
-pricesOf d t s = record { d = d; t = t; s = s }
+abbrev pub pricesOf : ℕ → ℕ → ℕ → ℕ → Prices
+pricesOf d t s2 s3 = record { d = d; t = t; s2 = s2; s3 = s3 }
 
 -- What is asked for: the best chain of n within the limits, and refusal 1 first, where too little is lent.
 abbrev pub bestAsked : List ℕ → List ℕ → ℕ → Limits → Prices → Outcome
-bestAsked scratch places n lim π = lent scratch places (bestOutcome n lim π)
+bestAsked scratch places n lim π = lent scratch places (bestOutcome n lim (price π))
 
 unfoldable pub bestStatus : Outcome → ℕ
 bestStatus (refused r) = r

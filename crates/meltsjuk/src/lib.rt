@@ -60,7 +60,8 @@ pub extern "C" fn meltsjuk_best(
     b_limit: u8,
     d: u16,
     t: u16,
-    s: u16,
+    s2: u16,
+    s3: u16,
     scratch: &mut [u64],
     places: &mut [u16],
     position: &mut u64,
@@ -69,22 +70,22 @@ pub extern "C" fn meltsjuk_best(
 ) -> u8
     ensures answer { λ r. ⌜ r
         ≡ bestStatus
-        (bestAsked (now (scratch .entry)) (now (places .entry)) n (limitsOf «parts_limit» «a_limit» «b_limit») (pricesOf d t s)) ⌝ }
+        (bestAsked (now (scratch .entry)) (now (places .entry)) n (limitsOf «parts_limit» «a_limit» «b_limit») (pricesOf d t s2 s3)) ⌝ }
     ensures position { λ _. ⌜ now (position .exit)
         ≡ positionOr
-        (bestAsked (now (scratch .entry)) (now (places .entry)) n (limitsOf «parts_limit» «a_limit» «b_limit») (pricesOf d t s))
+        (bestAsked (now (scratch .entry)) (now (places .entry)) n (limitsOf «parts_limit» «a_limit» «b_limit») (pricesOf d t s2 s3))
         (now (position .entry)) ⌝ }
     ensures k { λ _. ⌜ now (k .exit)
         ≡ partsOr
-        (bestAsked (now (scratch .entry)) (now (places .entry)) n (limitsOf «parts_limit» «a_limit» «b_limit») (pricesOf d t s))
+        (bestAsked (now (scratch .entry)) (now (places .entry)) n (limitsOf «parts_limit» «a_limit» «b_limit») (pricesOf d t s2 s3))
         (now (k .entry)) ⌝ }
     ensures price { λ _. ⌜ now (price .exit)
-        ≡ priceOr (pricesOf d t s)
-        (bestAsked (now (scratch .entry)) (now (places .entry)) n (limitsOf «parts_limit» «a_limit» «b_limit») (pricesOf d t s))
+        ≡ priceOr (pricesOf d t s2 s3)
+        (bestAsked (now (scratch .entry)) (now (places .entry)) n (limitsOf «parts_limit» «a_limit» «b_limit») (pricesOf d t s2 s3))
         (now (price .entry)) ⌝ }
     ensures places { λ _. ⌜ now (places .exit)
         ≡ placesLeft
-        (bestAsked (now (scratch .entry)) (now (places .entry)) n (limitsOf «parts_limit» «a_limit» «b_limit») (pricesOf d t s))
+        (bestAsked (now (scratch .entry)) (now (places .entry)) n (limitsOf «parts_limit» «a_limit» «b_limit») (pricesOf d t s2 s3))
         (now (places .entry)) ⌝ }
     ensures scratch { λ _. ⌜ now (scratch .exit)
         ≡ scratchLeft (tooLittle 64 (now (scratch .entry)) (now (places .entry))) (now (scratch .entry)) ⌝ }
@@ -97,7 +98,8 @@ pub extern "C" fn meltsjuk_best(
     let prices = Prices {
         doubling: d,
         tripling: t,
-        addition: s,
+        addition_2: s2,
+        addition_3: s3,
     };
     match best::best_chain(n, limits, prices, scratch, places) {
         Chosen::Chain {

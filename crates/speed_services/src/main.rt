@@ -65,7 +65,8 @@ fn chosen(n: u64, prices: u64, scratch: &mut [u64]) -> u64 {
     let asked = Prices {
         doubling: (prices % 65536) as u16,
         tripling: (prices / 65536 % 65536) as u16,
-        addition: (prices / 4294967296 % 65536) as u16,
+        addition_2: (prices / 4294967296 % 65536) as u16,
+        addition_3: (prices / 281474976710656) as u16,
     };
     match best::best_chain(n, limits, asked, scratch, &mut places) {
         Chosen::Chain { position, k, price } => digest(position, price, k, &places),

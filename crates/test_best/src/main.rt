@@ -18,11 +18,12 @@ fn at_most(parts: u8, doublings: u8, triplings: u8) -> Limits {
     }
 }
 
-fn priced(doubling: u16, tripling: u16, addition: u16) -> Prices {
+fn priced(doubling: u16, tripling: u16, addition_2: u16, addition_3: u16) -> Prices {
     Prices {
         doubling,
         tripling,
-        addition,
+        addition_2,
+        addition_3,
     }
 }
 
@@ -56,12 +57,12 @@ fn limits_at(i: u64) -> Limits {
 
 fn prices_of(i: u64) -> Prices {
     match i {
-        0 => priced(4, 7, 9),
-        1 => priced(0, 0, 0),
-        2 => priced(65535, 65535, 65535),
-        3 => priced(1, 65535, 0),
-        4 => priced(65535, 1, 3),
-        _ => priced(0, 1, 65535),
+        0 => priced(4, 7, 9, 9),
+        1 => priced(0, 0, 0, 0),
+        2 => priced(65535, 65535, 65535, 65535),
+        3 => priced(1, 65535, 65535, 0),
+        4 => priced(65535, 1, 0, 65535),
+        _ => priced(0, 1, 65535, 0),
     }
 }
 

@@ -7,7 +7,7 @@ use native.Mathlib.Omega.{arith}
 use borrow.Author.Needs.{needs}
 use lib.ListN.{length, take, length-take}
 use Rattle.lent.specs.Lent.{scratchSize}
-use Rattle.chains.specs.Best.{Prices, Limits}
+use Rattle.chains.specs.Best.{Prices, price, Limits}
 use Rattle.ranking.specs.Services.{Outcome, refused, gives, lent, placesLeft}
 use Rattle.best.specs.Chosen.{bestOutcome, chosenOf}
 use Rattle.best.specs.declared.Chosen.{Chosen}
@@ -22,17 +22,17 @@ use Rattle.frames.proofs.serve.serve_best.Tie as tie
 
 -- It was asked for with the scratch s and the places p. x answered, and p′ was left in the places.
 module _ (n : ℕ) (lim : Limits) (π : Prices) (x : Chosen) (s p p′ : List ℕ) (numbers : scratchSize ≤ length s) (room : length p ≡ 64)
-    (e : x ≡ chosenOf π (lent s p (bestOutcome n lim π))) where
-  answer : x ≡ chosenOf π (bestOutcome n lim π)
+    (e : x ≡ chosenOf (price π) (lent s p (bestOutcome n lim (price π)))) where
+  answer : x ≡ chosenOf (price π) (bestOutcome n lim (price π))
   answer = rw (own-outcome s p numbers room) at e
 
-  chosen-chain : (i k cost : ℕ) → x ≡ chosen.Chain i k cost → p′ ≡ placesLeft (lent s p (bestOutcome n lim π)) p → length p′ ≡ 64
-      → (k ≤ 64) × (pricedReply π (bestOutcome n lim π) ≡ servedWith (pricedDigits n i (take (k - 0) p′) cost))
+  chosen-chain : (i k cost : ℕ) → x ≡ chosen.Chain i k cost → p′ ≡ placesLeft (lent s p (bestOutcome n lim (price π))) p → length p′ ≡ 64
+      → (k ≤ 64) × (pricedReply (price π) (bestOutcome n lim (price π)) ≡ servedWith (pricedDigits n i (take (k - 0) p′) cost))
   unfolding chosenOf pricedReply
-  chosen-chain i k cost f left h = go (bestOutcome n lim π) refl
+  chosen-chain i k cost f left h = go (bestOutcome n lim (price π)) refl
     where
-      go : (o : Outcome) → bestOutcome n lim π ≡ o
-          → (k ≤ 64) × (pricedReply π (bestOutcome n lim π) ≡ servedWith (pricedDigits n i (take (k - 0) p′) cost))
+      go : (o : Outcome) → bestOutcome n lim (price π) ≡ o
+          → (k ≤ 64) × (pricedReply (price π) (bestOutcome n lim (price π)) ≡ servedWith (pricedDigits n i (take (k - 0) p′) cost))
       go (refused r) g =
           let z : _≡_ {A = ℕ} 0 1 = cc (rw g at answer) in
           absurd (omega arith)
@@ -42,11 +42,11 @@ module _ (n : ℕ) (lim : Limits) (π : Prices) (x : Chosen) (s p p′ : List �
           let (fits, stand) = chain-left m c p p′ (rw (own-outcome s p numbers room, g) at left) h in
           (omega arith, rw (g, ← stand, size, sub-zero, best-number n lim π m c g) (cc (rw (best-number n lim π m c g) at a)))
 
-  chosen-refused : (r : ℕ) → x ≡ chosen.Refused r → pricedReply π (bestOutcome n lim π) ≡ refusedAs r
+  chosen-refused : (r : ℕ) → x ≡ chosen.Refused r → pricedReply (price π) (bestOutcome n lim (price π)) ≡ refusedAs r
   unfolding chosenOf pricedReply
-  chosen-refused r f = go (bestOutcome n lim π) refl
+  chosen-refused r f = go (bestOutcome n lim (price π)) refl
     where
-      go : (o : Outcome) → bestOutcome n lim π ≡ o → pricedReply π (bestOutcome n lim π) ≡ refusedAs r
+      go : (o : Outcome) → bestOutcome n lim (price π) ≡ o → pricedReply (price π) (bestOutcome n lim (price π)) ≡ refusedAs r
       go (refused q) g =
           let same : q ≡ r = cc (rw g at answer) in
           rw (g, same)
@@ -59,14 +59,14 @@ part-tell-priced-end c =
     let m = c .before .before .before in
     let b = m .before .before .before .before .before in
     let s = b .before .before .before .before .before .before .before in
-    omega (arith, chosen-chain _ _ _ _ _ _ _ (s .pre .numbers) refl (b .best-in .ensures .0) _ _ _ (m .position .given .1) (b .best-in .ensures .1 .0) (omega arith) .0)
+    omega (arith, chosen-chain _ _ _ _ _ _ _ (s .pre .0 .numbers) refl (b .best-in .ensures .0) _ _ _ (m .position .given .1) (b .best-in .ensures .1 .0) (omega arith) .0)
 
 tell-priced-requires : tie.Need-tell-priced-requires
 tell-priced-requires c κs =
     let m = c .before .before .before .before in
     let b = m .before .before .before .before .before in
     let s = b .before .before .before .before .before .before .before in
-    let k = chosen-chain _ _ _ _ _ _ _ (s .pre .numbers) refl (b .best-in .ensures .0) _ _ _ (m .position .given .1) (b .best-in .ensures .1 .0) (omega arith) .0 in
+    let k = chosen-chain _ _ _ _ _ _ _ (s .pre .0 .numbers) refl (b .best-in .ensures .0) _ _ _ (m .position .given .1) (b .best-in .ensures .1 .0) (omega arith) .0 in
     (omega arith, rw length-take (omega arith))
 
 returns : tie.Need-returns
@@ -77,9 +77,9 @@ returns c =
     let b = m .before .before .before .before .before in
     let s = b .before .before .before .before .before .before .before in
     let n = b .before .before .before .field-of .ensures ∙ field-fits (s .args .line .now) 1 8 (omega arith) in
-    let reply = chosen-chain _ _ _ _ _ _ _ (s .pre .numbers) refl (b .best-in .ensures .0) _ _ _ (m .position .given .1) (b .best-in .ensures .1 .0) (omega arith) .1 in
+    let reply = chosen-chain _ _ _ _ _ _ _ (s .pre .0 .numbers) refl (b .best-in .ensures .0) _ _ _ (m .position .given .1) (b .best-in .ensures .1 .0) (omega arith) .1 in
     rw (← n)
-    (record { told = rw reply (t .tell-priced .ensures); zeroed = scratch-zeroed _ _ (s .pre .numbers) refl _ (b .best-in .ensures .1 .1) })
+    (record { told = rw reply (t .tell-priced .ensures); zeroed = scratch-zeroed _ _ (s .pre .0 .numbers) refl _ (b .best-in .ensures .1 .1) })
 
 returns-2 : tie.Need-returns-2
 unfolding served
@@ -89,9 +89,9 @@ returns-2 c =
     let b = m .before .before .before .before .before in
     let s = b .before .before .before .before .before .before .before in
     let n = b .before .before .before .field-of .ensures ∙ field-fits (s .args .line .now) 1 8 (omega arith) in
-    let reply = chosen-refused _ _ _ _ _ _ (s .args .out .now) (s .pre .numbers) refl (b .best-in .ensures .0) _ (m .number .given .1) in
+    let reply = chosen-refused _ _ _ _ _ _ (s .args .out .now) (s .pre .0 .numbers) refl (b .best-in .ensures .0) _ (m .number .given .1) in
     rw (← n)
-    (record { told = rw reply (t .tell-refusal .ensures); zeroed = scratch-zeroed _ _ (s .pre .numbers) refl _ (b .best-in .ensures .1 .1) })
+    (record { told = rw reply (t .tell-refusal .ensures); zeroed = scratch-zeroed _ _ (s .pre .0 .numbers) refl _ (b .best-in .ensures .1 .1) })
 
 pub serve-best-spec : {M : Type 1} → statement M
 serve-best-spec =

@@ -34,7 +34,7 @@ serve-kind-spec =
     tie.close
     (tie.spec
     (λ c κs. search needs)
-    (λ c κs. search needs)
+    (λ c κs. search (needs, fits best-line))
     (λ c κs. search needs)
     (λ c κs. search (needs, fits record-line))
     (λ c κs. search (needs, fits word-line))
