@@ -283,7 +283,7 @@ def check_apart(lists):
 
 
 def check_one_price():
-    """The 2,086 earlier lines of kind 02, with one price s for an addition: with s2 = s3 = s each gets its earlier reply, as it is 02."""
+    """The 2,086 earlier lines of kind 02, with one price s for an addition: with s2 = s3 = s each gets its earlier reply, and as it stands 02."""
     file = stored("one_price_lines")
     assert answer(with_price_twice(file)).encode() == stored("one_price_replies")
     assert len(set(lines_of(file))) == 2086 and {reply_to(line) for line in lines_of(file)} == {"02"}
@@ -568,7 +568,7 @@ def some_price(chance):
 
 
 def pulling(bits, times):
-    """So many drawn numbers of at most so many bits, with limits and prices where s2 and s3 pull to different chains."""
+    """`times` random numbers of at most `bits` bits, with limits and prices for which exchanging s2 and s3 changes the best chain."""
     chance = random.Random(bits)
     drawn = ((chance.getrandbits(bits), some_limits(chance), [some_price(chance) for _ in range(4)]) for _ in itertools.count())
     return itertools.islice((asked for asked in drawn if pulled_apart(*asked)), times)
@@ -591,7 +591,7 @@ def price_file():
 
 
 def price_lengths():
-    """From 18 bytes to 22, where a chain fits and where none does: the length of the kind comes before 5, and a bad character before it."""
+    """From 18 bytes to 22, where a chain fits and where none does: the length of the kind comes before 5, and a bad character before the length."""
     for n, limits in [*EXAMPLES, (3 * 2**62 - 1, (62, 63, 40)), (3 * 2**62 - 1, (63, 63, 40))]:
         line = best_line(n, limits, PRICES[3])
         for text in (line[:-4], line[:-3], line[:-2], line[:-1], line, line + b"0", line + b"00", line + b"000", line + b"0000"):
@@ -916,7 +916,7 @@ def test_ranking():
 
 # ---- the best chain
 
-PRICES = [(4, 7, 9, 9), (0, 0, 0, 0), (65535, 65535, 65535, 65535), (1, 65535, 65535, 0), (65535, 1, 0, 65535), (0, 1, 65535, 0)]
+PRICES = [(4, 7, 9, 9), (0, 0, 0, 0), (65535, 65535, 65535, 65535), (1, 65535, 65535, 0), (65535, 1, 0, 65535), (4, 7, 9, 6)]
 LIMITS = [FREE, (64, 63, 40), (3, 63, 40), (2, 5, 2), (4, 3, 40), (3, 63, 1), (1, 255, 255), (0, 0, 0), (5, 0, 40), (6, 63, 0)]
 EDGE_LIMITS = [FREE, (63, 63, 40), (62, 63, 40), (64, 63, 0), (63, 63, 0), (64, 0, 40), (255, 62, 40), (255, 63, 39)]
 EDGES = [3 * 2**62 - 1, 3 * 2**62, 2**64 - 1, 2**64 - 2, 2**63, 2**62 - 1, 3**40, 3**40 - 1, 3**40 + 1, 2**63 - 1]

@@ -1,7 +1,7 @@
 -- What the best chain answers and leaves behind: document 01, 'Services and memory', and refusals 1 and 5; document 02, T-04.
 --
--- Like the services of ranking it has an outcome, and the answer and what is left in the lent memory follow from that. The service
--- has `price π` for the cost of a chain, by the prices π that it is given.
+-- Like the services of ranking it has an outcome, and the answer and what is left in the lent memory follow from that. The cost of a
+-- chain is `price π`, where π are the prices that the service is given.
 -- Definitions only. That the outcome is the best chain of demand 3 is in Demand3.
 use mathlib.Core.List.{List}
 use mathlib.Core.Option.{Option, none, some}

@@ -52,7 +52,9 @@ module _ (π : Prices) (n : ℕ) (lim : Limits) {s p : List ℕ} (h : Enough 64 
   pub none-served : {s′ : List ℕ} → bestChain n lim (price π) ≡ none → s′ ≡ scratchLeft (littleScratch l) l
       → Served (price π) (bestOutcome n lim (price π)) s p (Refused 5) p s′
   unfolding bestOutcome orNone chosenOf placesLeft
-  none-served e z = rw (lent-all s p (bestOutcome n lim (price π)) h, enough-zeroed 64 s p h, e) (refl, (refl, z ∙ used-left (h .numbers) u))
+  none-served e z =
+      rw (lent-all s p (bestOutcome n lim (price π)) h, enough-zeroed 64 s p h, e)
+      (refl, (refl, z ∙ used-left (h .numbers) u))
 
   -- ---- the chosen word
 

@@ -16,7 +16,7 @@ use Rattle.chains.specs.Chains.{Part, ChainOf}
 use Rattle.chains.specs.Listing.{position}
 use Rattle.chains.specs.Best.{Prices, price, Limits, Within, NoneFits, IsBest, bestChain}
 use Rattle.chains.specs.BestLaws.{best-unique, best-chain, best-none, best-of-zero}
-use Rattle.chains.specs.OnePrice.{earlierPrice, sForBoth, one-price-chosen}
+use Rattle.chains.specs.OnePrice.{earlierPrice, sForBoth, one-price, one-price-chosen}
 use Rattle.chains.specs.Bounds.{chain-bounds}
 use Rattle.parts.specs.Parts.{partNumber}
 use Rattle.ranking.specs.Services.{Outcome, refused, gives, lent, placesLeft}
@@ -81,7 +81,8 @@ module _ (n : ℕ) (lim : Limits) (π : Prices) where
 
   -- The answer and the places at exit, as the contract of `best_chain` has them.
   pub demand-3 : {s p : List ℕ} → Enough 64 s p
-      → Meets n lim π p (placesLeft (lent s p (bestOutcome n lim (price π))) p) (chosenOf (price π) (lent s p (bestOutcome n lim (price π))))
+      → Meets n lim π p (placesLeft (lent s p (bestOutcome n lim (price π))) p)
+      (chosenOf (price π) (lent s p (bestOutcome n lim (price π))))
   unfolding chosenOf placesLeft
   demand-3 {s} {p} h = rw (lent-all s p (bestOutcome n lim (price π)) h) (go (bestOutcome n lim (price π)) told)
     where
@@ -125,9 +126,29 @@ module _ {n : ℕ} (fits : n < 2 ^ 64) where
 
 -- ---- the same price for every addition
 
--- The outcome is the one by document 01's price, which it was before there were two prices: document 02, T-04. What is told of a
--- chain is the same too, its price by `one-price` (chains, OnePrice).
-pub one-price-outcome : (n : ℕ) (lim : Limits) (d t s : ℕ)
-    → bestOutcome n lim (price (sForBoth d t s)) ≡ bestOutcome n lim (earlierPrice d t s)
-unfolding bestOutcome
-one-price-outcome n lim d t s = rw (one-price-chosen n lim d t s)
+-- With the same price for both additions all is as it was by document 01's price, before T-04.
+module _ (n : ℕ) (lim : Limits) (d t s : ℕ) where
+  -- The same outcome,
+  pub one-price-outcome : bestOutcome n lim (price (sForBoth d t s)) ≡ bestOutcome n lim (earlierPrice d t s)
+  unfolding bestOutcome
+  one-price-outcome = rw (one-price-chosen n lim d t s)
+
+  -- the same cost of the chain that is given,
+  pub one-price-given : (m : ℕ) (c : List Part) → bestOutcome n lim (price (sForBoth d t s)) ≡ gives m c
+      → price (sForBoth d t s) c ≡ earlierPrice d t s c
+  one-price-given m c = go (bestOutcome n lim (price (sForBoth d t s))) (told n lim (sForBoth d t s))
+    where
+      go : (o : Outcome) → Told n lim (sForBoth d t s) o → o ≡ gives m c → price (sForBoth d t s) c ≡ earlierPrice d t s c
+      go o (fitting c′ b) e = let same : c′ ≡ c = cc in one-price d t s c (rw same at (b .chain .chained))
+      go o (nothing f) e = let z : _≡_ {A = ℕ} 0 1 = cc in absurd (omega arith)
+
+  -- and the same answer.
+  pub one-price-told : chosenOf (price (sForBoth d t s)) (bestOutcome n lim (price (sForBoth d t s)))
+      ≡ chosenOf (earlierPrice d t s) (bestOutcome n lim (earlierPrice d t s))
+  unfolding chosenOf
+  one-price-told = rw (← one-price-outcome) (go (bestOutcome n lim (price (sForBoth d t s))) refl)
+    where
+      go : (o : Outcome) → bestOutcome n lim (price (sForBoth d t s)) ≡ o
+          → chosenOf (price (sForBoth d t s)) o ≡ chosenOf (earlierPrice d t s) o
+      go (refused r) e = refl
+      go (gives m c) e = rw (one-price-given m c e)

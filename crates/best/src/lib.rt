@@ -18,8 +18,8 @@ pub struct Limits {
     pub triplings: u8,
 }
 
-// The prices of a doubling, of a tripling, and of an addition: `addition_2` at a point with letter 1, whose addition is made with a
-// doubling, and `addition_3` at a point with letter 3 that is not the last, whose addition is made with a tripling.
+// The prices of a doubling, of a tripling, of an addition at a point with letter 1 (document 02's s2) and of one at a point with
+// letter 3 that is not the last (s3). When the chain is run, the first comes right after a doubling and the second after a tripling.
 pub struct Prices {
     pub doubling: u16,
     pub tripling: u16,

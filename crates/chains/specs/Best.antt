@@ -1,7 +1,7 @@
 -- Price, limits and the best chain: document 01, 'Parts and chains' and 'Services and memory'; document 02, T-04; demand 3.
 --
 -- In this order: prices and limits; what makes a chain the best (`IsBest`); the best chain as a function (`bestChain`). The last
--- two are said of any `cost` that a chain may have; the services have `price π` for it, by the prices π that they are given.
+-- two are defined for any `cost` of a chain. The services use `price π`, where π are the prices that they are given.
 -- Definitions only. That `bestChain` gives the chain that is best, and none exactly where none is within the limits, is in
 -- BestLaws; laws of the price are in PriceLaws.
 use mathlib.Core.Path.{_≡_}

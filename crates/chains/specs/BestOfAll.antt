@@ -30,13 +30,13 @@ use Rattle.chains.specs.Members.{member-words, getD-member}
 use Rattle.chains.specs.Listed.{chain-listed}
 use Rattle.chains.specs.Positions.{words-position, words-at-position}
 use Rattle.chains.specs.RoundTrip.{chain-word-chain, word-reads, word-chained, word-chain-word}
-use Rattle.chains.specs.PriceLaws.{no-addition, addition-2, addition-3, one-part, ends-in-3}
+use Rattle.chains.specs.PriceLaws.{no-addition, addition-2, addition-3, last-point, some-3}
 use Rattle.chains.specs.Keys.{Costs, key, next, lastPoint, inGrid, bestAt}
 use Rattle.chains.specs.Bests.{FirstLeast, Found, first-member, first-no-less, inside-bounds, best-found}
 
 -- ---- the chain that the costs choose
 
--- What a letter costs that is not the last: a part M and its addition s2 or s3, a rise of a d, a rise of b t.
+-- What a letter costs that is not the last: M and s2 or s3 for a part, d for a rise of a, t for a rise of b.
 unfoldable pub letterCost : ℕ → Prices → ℕ → ℕ
 letterCost M π zero = π .d
 letterCost M π (suc zero) = M + π .s2 + π .d
@@ -60,7 +60,7 @@ leastKeyed M n lim π = upTo (lim .K) (bestAt (costsOf M π) (lim .A) (lim .B) t
 -- ---- the key and the end of a word
 
 module _ (M : ℕ) (π : Prices) where
-  -- What the walk to p costs with k parts met before it, their additions apart.
+  -- What the walk to p costs with k parts met before it, without their additions.
   paid : Part → ℕ → ℕ
   paid p k = M * k + (π .d * p .a + π .t * p .b)
 
@@ -110,10 +110,10 @@ module _ (M : ℕ) (π : Prices) where
       (omega (arith, paid-up p (length met), no-addition π 2 (x ∷ w) refl refl))
       (walked true (up p) met (x ∷ w) (and-yes f (reads true (x ∷ w)) h .1) tt)
   walked f p met (suc (suc (suc zero)) ∷ []) h s =
-      record { below = met; chain = refl; costs = omega (arith, one-part π) }
+      record { below = met; chain = refl; costs = omega (arith, last-point π) }
   walked f p met (suc (suc (suc zero)) ∷ x ∷ w) h s =
       further p met (p ∷ met) 3 x w refl
-      (omega (arith, paid-up p (suc (length met)), paid-part p (length met), addition-3 π (x ∷ w) (ends-in-3 (x ∷ w) true h tt)))
+      (omega (arith, paid-up p (suc (length met)), paid-part p (length met), addition-3 π (x ∷ w) (some-3 (x ∷ w) true h tt)))
       (walked true (up p) (p ∷ met) (x ∷ w) h tt)
   walked f p met (suc (suc (suc (suc l))) ∷ w) h s = absurd h
 

@@ -5,7 +5,7 @@
 -- at a rest of 2 or more (`best-step`) and of 1, and outside the grid. Last the same for the least key, a number as a table
 -- holds it (`least-step`), and the two choices of a walk along such a table (`take-a`, `take-b`).
 --
--- That the best word is the word of the best chain, for document 01's prices, is in BestOfAll.
+-- That the best word is the word of the best chain, for the four prices, is in BestOfAll.
 use mathlib.Core.Path.{_≡_, refl, sym, ap, subst, _∙_}
 use mathlib.Core.Logic.{_↔_, _≢_, ⊎-elim}
 use mathlib.Core.Bool.{Bool, true, false, cond, _&&_}

@@ -22,41 +22,41 @@ use Rattle.chains.specs.Bounds.{parts-bound, word-bound, word-length}
 
 -- ---- the additions of a word, letter by letter
 
--- What a reader takes has a letter 3, the last.
-pub ends-in-3 : (w : Word) (f : Bool) → T (reads f w) → T (someLeft w) → 1 ≤ occurs 3 w
+-- What a reader takes has a letter 3: the last one is.
+pub some-3 : (w : Word) (f : Bool) → T (reads f w) → T (someLeft w) → 1 ≤ occurs 3 w
 unfolding reads someLeft occurs
-ends-in-3 [] f h s = absurd s
-ends-in-3 (zero ∷ []) f h s = absurd h
-ends-in-3 (zero ∷ x ∷ w) f h s = ends-in-3 (x ∷ w) false h tt
-ends-in-3 (suc zero ∷ []) f h s = absurd h
-ends-in-3 (suc zero ∷ x ∷ w) f h s = ends-in-3 (x ∷ w) false h tt
-ends-in-3 (suc (suc zero) ∷ w) f h s =
+some-3 [] f h s = absurd s
+some-3 (zero ∷ []) f h s = absurd h
+some-3 (zero ∷ x ∷ w) f h s = some-3 (x ∷ w) false h tt
+some-3 (suc zero ∷ []) f h s = absurd h
+some-3 (suc zero ∷ x ∷ w) f h s = some-3 (x ∷ w) false h tt
+some-3 (suc (suc zero) ∷ w) f h s =
     let r : T (someLeft w && reads true w) = and-r f (someLeft w && reads true w) h in
-    ends-in-3 w true (and-r (someLeft w) (reads true w) r) (and-l (someLeft w) (reads true w) r)
-ends-in-3 (suc (suc (suc zero)) ∷ w) f h s = omega arith
-ends-in-3 (suc (suc (suc (suc l))) ∷ w) f h s = absurd h
+    some-3 w true (and-r (someLeft w) (reads true w) r) (and-l (someLeft w) (reads true w) r)
+some-3 (suc (suc (suc zero)) ∷ w) f h s = omega arith
+some-3 (suc (suc (suc (suc l))) ∷ w) f h s = absurd h
 
 one-more : (x k : ℕ) → 1 ≤ k → x * (suc k - 1) ≡ x + x * (k - 1)
 one-more x zero h = absurd (omega arith)
 one-more x (suc k) h = simp unary-clauses (omega arith)
 
 module _ (π : Prices) where
-  -- The last point has none,
-  pub one-part : additions π (3 ∷ []) ≡ 0
+  -- The last point has no addition.
+  pub last-point : additions π (3 ∷ []) ≡ 0
   unfolding additions occurs
-  one-part = omega arith
+  last-point = omega arith
 
-  -- nor has a point that is no part;
+  -- A point without a part has none.
   pub no-addition : (l : ℕ) (w : Word) → eqb l 1 ≡ false → eqb l 3 ≡ false → additions π (l ∷ w) ≡ additions π w
   unfolding additions occurs
   no-addition l w e d = rw (e, d)
 
-  -- letter 1 has one of s2,
+  -- Letter 1 adds s2.
   pub addition-2 : (w : Word) → additions π (1 ∷ w) ≡ π .s2 + additions π w
   unfolding additions occurs
   addition-2 w = omega (arith, mul-suc (π .s2) (occurs 1 w))
 
-  -- and letter 3 one of s3 where it is not the last.
+  -- Letter 3 adds s3 where another 3 follows.
   pub addition-3 : (w : Word) → 1 ≤ occurs 3 w → additions π (3 ∷ w) ≡ π .s3 + additions π w
   unfolding additions occurs
   addition-3 w h = omega (arith, one-more (π .s3) (occurs 3 w) h)
@@ -82,7 +82,7 @@ module _ (π : Prices) where
   threes-between zero (suc j) w = threes-between zero j w
   threes-between (suc i) j w = threes-between i j w
 
-  -- The points from the part q to the next larger one, p, have one, where the letters w from p on end in 3.
+  -- The points from the part q to the next larger one, p, have one addition, where w are the letters from p on.
   module _ (p q : Part) (w : Word) (s : Above p q) (last : 1 ≤ occurs 3 w) where
     from-part : (additions π (marked (path q p) ++ w) ≡ cond (ltb (q .b) (p .b)) (π .s3) (π .s2) + additions π w)
         × (1 ≤ occurs 3 (marked (path q p) ++ w))
@@ -115,7 +115,12 @@ module _ (π : Prices) where
   pub price-by-neighbours : (p : Part) (c : List Part) → Chained (p ∷ c)
       → price π (p ∷ c) ≡ π .d * p .a + π .t * p .b + byNeighbours p c
   unfolding price wordOf occurs
-  price-by-neighbours p c h = omega (arith, along p c (3 ∷ []) h (omega arith), one-part π)
+  price-by-neighbours p c h = omega (arith, along p c (3 ∷ []) h (omega arith), last-point π)
+
+  -- One part has no addition.
+  pub one-part : (p : Part) → price π (p ∷ []) ≡ π .d * p .a + π .t * p .b
+  unfolding byNeighbours
+  one-part p = omega (arith, price-by-neighbours p [] tt)
 
 -- ---- how high a price can be
 

@@ -1,30 +1,27 @@
--- The lines of kind 02 from before an addition had two prices: document 02, T-04. Such a line has 18 bytes, and now gets 2
+-- Lines of kind 02 as they were before T-04 (document 02), with one price for an addition. Such a line has 18 bytes, and now gets 2
 -- (`earlier-refused`). With its s written twice it gets the reply that it got then (`s-twice-reply`).
 --
--- In this order: the definitions, for these laws alone; a line that is followed by more; the laws.
-use mathlib.Core.Path.{_≡_, refl, sym, ap, subst, _∙_}
-use mathlib.Core.Bool.{Bool, true, false, _&&_}
+-- In this order: the definitions, for these laws alone; a line with the same s2 and s3 (`one-price-reply`); an earlier line.
+use mathlib.Core.Path.{_≡_, refl, sym, ap, _∙_}
+use mathlib.Core.Bool.{true, and-eq-true-iff}
 use mathlib.Core.List.{List, _++_}
 use mathlib.Core.Option.{some}
 use Prim.Native.Nat.{ℕ, _+_, _*_, _≤_}
 use native.Mathlib.Omega.{arith}
-use lib.Dec.{T}
 use lib.ListN.{length, take, drop, length-append, length-drop, take-append-drop}
-use lib.Seq.{take-append-le, drop-append-le}
 use Rattle.chains.specs.Chains.{Part}
 use Rattle.chains.specs.Best.{Prices, price}
-use Rattle.chains.specs.OnePrice.{earlierPrice, sForBoth, one-price}
+use Rattle.chains.specs.OnePrice.{earlierPrice, sForBoth}
 use Rattle.ranking.specs.Services.{Outcome, refused, gives}
 use Rattle.best.specs.Chosen.{bestOutcome}
-use Rattle.best.specs.Demand3.{given-is-best, one-price-outcome}
+use Rattle.best.specs.Demand3.{one-price-outcome, one-price-given}
 use Rattle.digits.specs.Digits.{isDigit, every, allDigits}
 use Rattle.digits.specs.DigitLaws.{every-append}
 use Rattle.lines.specs.Kinds.{rowOf, kindOf, best-line}
 use Rattle.lines.specs.Lines.{field, bytesIn, fit, shapeOf, Proper}
 use Rattle.lines.specs.LineLaws.{kind-byte, shape-kind, unfit-kind-length, line-fit}
 use Rattle.frames.specs.Replies.{Reply, refusedAs, pricedReply, limitsIn, pricesIn, served, replyByShape, replyTo}
-use Rattle.frames.specs.ReadBack.{field-after}
-use Rattle.frames.specs.ServedLaws.{best-number}
+use Rattle.frames.specs.ReadBack.{field-after, field-within}
 use Rattle.frames.specs.ReplyLaws.{reply-fit}
 
 -- A line of 18 bytes: 02, n (8), K, A, B (1 each), d, t, s (2 each).
@@ -37,7 +34,7 @@ pub record EarlierLine (line : List ℕ) : Type 0 where
 abbrev pub earlierCost : List ℕ → List Part → ℕ
 earlierCost line = earlierPrice (field line 12 2) (field line 14 2) (field line 16 2)
 
--- The reply that it got.
+-- The reply that the line got.
 abbrev pub earlierReply : List ℕ → Reply
 earlierReply line = pricedReply (earlierCost line) (bestOutcome (field line 1 8) (limitsIn line) (earlierCost line))
 
@@ -45,20 +42,9 @@ earlierReply line = pricedReply (earlierCost line) (bestOutcome (field line 1 8)
 abbrev pub sTwice : List ℕ → List ℕ
 sTwice line = line ++ drop 32 line
 
--- ---- a line that is followed by more
-
-field-within : (line more : List ℕ) (at k : ℕ) → 2 * at + 2 * k ≤ length line → field (line ++ more) at k ≡ field line at k
-unfolding field
-field-within line more at k h =
-    rw (drop-append-le (2 * at) line more (omega arith), take-append-le (2 * k) (drop (2 * at) line) more (rw length-drop (omega arith)))
-
 -- Whole bytes, some and at most 257.
 proper : (line : List ℕ) (k : ℕ) → length line ≡ 2 * k → 1 ≤ k → k ≤ 257 → Proper (length line)
 proper line k e l m = record { some-there = omega arith; even = omega arith; most = omega arith }
-
-and-right : (a b : Bool) → a && b ≡ true → b ≡ true
-and-right true b e = e
-and-right false b e = absurd (subst T (sym e) tt)
 
 -- ---- the same price for both additions
 
@@ -72,9 +58,7 @@ module _ (line : List ℕ) (f : shapeOf line ≡ fit best-line) (e : field line 
   unfolding pricedReply
   same-reply (refused r) g = refl
   same-reply (gives m c) g =
-      let same = best-number (field line 1 8) (limitsIn line) π m c g in
-      let b = given-is-best (field line 1 8) (limitsIn line) π c .0 (rw same at g) in
-      rw (one-price (field line 12 2) (field line 14 2) (field line 16 2) c (b .chain .chained))
+      rw (one-price-given (field line 1 8) (limitsIn line) (field line 12 2) (field line 14 2) (field line 16 2) m c g)
 
   pub one-price-reply : replyTo line ≡ earlierReply line
   unfolding served pricesIn
@@ -106,8 +90,8 @@ module _ (line : List ℕ) (h : EarlierLine line) where
   digits-twice : allDigits (sTwice line) ≡ true
   digits-twice =
       let split = sym (every-append isDigit (take 32 line) (drop 32 line)) ∙ ap (every isDigit) (take-append-drop 32 line) in
-      let last = and-right (every isDigit (take 32 line)) (every isDigit (drop 32 line)) (split ∙ h .digits) in
-      rw (every-append isDigit line (drop 32 line), h .digits, last)
+      let both = and-eq-true-iff (every isDigit (take 32 line)) (every isDigit (drop 32 line)) .0 (split ∙ h .digits) in
+      rw (every-append isDigit line (drop 32 line), h .digits, both .1)
 
   -- The fields of the earlier line stand where they stood, and s3 is its s.
   kept : (at k : ℕ) → 2 * at + 2 * k ≤ 36 → field (sTwice line) at k ≡ field line at k

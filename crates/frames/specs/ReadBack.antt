@@ -7,8 +7,8 @@ use mathlib.Core.List.{List, [], _∷_, _++_, append-nil, append-assoc}
 use Prim.Native.Nat.{ℕ, zero, suc, _+_, _*_, _^_, _≤_, _<_}
 use native.Mathlib.Nat.{add-zero, add-assoc, mul-add, mod-eq-of-lt}
 use native.Mathlib.Omega.{arith}
-use lib.ListN.{length, getD}
-use lib.Seq.{take-at, drop-append-add}
+use lib.ListN.{length, drop, getD, length-drop}
+use lib.Seq.{take-at, take-append-le, drop-append-le, drop-append-add}
 use Rattle.digits.specs.Digits.{digitsOf}
 use Rattle.digits.specs.DigitLaws.{length-digits, number-digits}
 use Rattle.lines.specs.Lines.{field, fields}
@@ -22,6 +22,15 @@ use Rattle.frames.specs.ReplyDigitLaws.{length-head, length-chain}
 pub field-after : (a at k : ℕ) (xs l : List ℕ) → length xs ≡ 2 * a → field (xs ++ l) (a + at) k ≡ field l at k
 unfolding field
 field-after a at k xs l e = rw (mul-add 2 a at, ← e, drop-append-add xs l (2 * at))
+
+-- What follows the field is left out.
+pub field-within : (line more : List ℕ) (at k : ℕ) → 2 * at + 2 * k ≤ length line → field (line ++ more) at k ≡ field line at k
+unfolding field
+field-within line more at k h =
+    rw (
+      drop-append-le (2 * at) line more (omega arith),
+      take-append-le (2 * k) (drop (2 * at) line) more (rw length-drop (omega arith)),
+    )
 
 -- A value of k bytes that fits.
 pub field-first : (k n : ℕ) (l : List ℕ) → n < 16 ^ (2 * k) → field (digitsOf (2 * k) n ++ l) 0 k ≡ n

@@ -43,8 +43,8 @@ pub fn serve_count(line: &[u8], scratch: &mut [u64], out: &mut [u8]) -> Replied
     }
 }
 
-// The limits and the prices of a line of kind 02. The limits stand side by side and are read at once: with a call for each, the
-// compiled loop over the rows of keys takes longer.
+// The limits and the prices of a line of kind 02. The limits stand side by side and are read in one call: with three calls
+// the compiler makes a slower loop over the rows of keys.
 fn limits_in(line: &[u8]) -> Limits
     requires { ⌜ Fit (now line) best-line ⌝ }
     ensures { λ r. ⌜ limitsOf r ≡ limitsIn (now (line .entry)) ⌝ }
@@ -68,7 +68,7 @@ fn prices_in(line: &[u8]) -> Prices
     }
 }
 
-// The best chain of n that such a line asks for.
+// The best chain of n, by the limits and prices of a line of kind 02.
 fn best_in(n: u64, line: &[u8], scratch: &mut [u64], places: &mut [u16]) -> Chosen
     requires { ⌜ Fit (now line) best-line ⌝ }
     ensures { λ r. ⌜ r

@@ -1,5 +1,5 @@
--- The kinds of lines and how a line of each is laid out: document 01, 'Frames', and document 02, T-02 and T-04. Nothing else says which
--- kinds there are.
+-- The kinds of lines and how a line of each is laid out: document 01, 'Frames', and document 02, T-02 and T-04. Nothing else says
+-- which kinds there are.
 -- Definitions only.
 use mathlib.Core.Bool.{true, false}
 use mathlib.Core.List.{List, [], _∷_}

@@ -54,7 +54,7 @@ pub fn field_of(line: &[u8], at: usize, k: usize) -> u64
 }
 
 // One byte.
-pub fn byte_of(line: &[u8], at: usize) -> u8
+fn byte_of(line: &[u8], at: usize) -> u8
     ensures { λ r. ⌜ r ≡ field (now (line .entry)) at 1 ⌝ }
 {
     field_of(line, at, 1) as u8
