@@ -274,8 +274,8 @@ fn read_word(ts: &Tables, word: &[u8], t: &mut Table) -> Result<Chain, u8> {
     Ok(Chain { n, position: rank(ts, n, word, t), numbers: numbers(ts, word), price: 0 })
 }
 
-/// The sum and the word of a record.
-fn record_word(ts: &Tables, numbers: &[u16]) -> Result<(u64, Vec<u8>), u8> {
+/// The sum and the parts of a record.
+fn record_parts(ts: &Tables, numbers: &[u16]) -> Result<(u64, Vec<u64>), u8> {
     if numbers.len() > 64 || numbers.iter().any(|&i| i as usize >= ts.parts.len()) {
         return Err(8);
     }
@@ -287,6 +287,12 @@ fn record_word(ts: &Tables, numbers: &[u16]) -> Result<(u64, Vec<u8>), u8> {
     for v in &values {
         n = n.checked_add(*v).ok_or(10)?;
     }
+    Ok((n, values))
+}
+
+/// The sum and the word of a record.
+fn record_word(ts: &Tables, numbers: &[u16]) -> Result<(u64, Vec<u8>), u8> {
+    let (n, _) = record_parts(ts, numbers)?;
     let mut word = Vec::new();
     let (mut a, mut b) = (0, 0);
     for (k, &i) in numbers.iter().enumerate().rev() {
@@ -341,6 +347,128 @@ fn run_chain(ts: &Tables, numbers: &[u16], m: u64, x: u64) -> Result<u64, u8> {
     Ok(r)
 }
 
+/// A chain for its tree word: the sum of its powers of two, and its other parts, which are all multiples of 3.
+struct TreeChain {
+    powers: u64,
+    others: Vec<u64>,
+}
+
+impl TreeChain {
+    fn new(chain: &[u64]) -> TreeChain {
+        let (powers, others): (Vec<u64>, Vec<u64>) = chain.iter().partition(|p| p.is_power_of_two());
+        TreeChain { powers: powers.iter().sum(), others }
+    }
+
+    /// The parts, largest first.
+    fn chain(&self) -> Vec<u64> {
+        let powers = (0..live(self.powers)).rev().map(|a| 1 << a).filter(|p| self.powers & p != 0);
+        self.others.iter().copied().chain(powers).collect()
+    }
+
+    fn is_multiple_of_3(&self) -> bool {
+        self.powers == 0
+    }
+
+    fn is_even(&self) -> bool {
+        self.powers % 2 == 0 && self.others.iter().all(|p| p % 2 == 0)
+    }
+
+    /// What a letter does on the way back from 1: one more in the powers of two, or every part times 2 or 3.
+    fn by_letter(&mut self, letter: u8) {
+        match letter {
+            1 => self.powers += 1,
+            2 => {
+                self.powers *= 2;
+                self.others.iter_mut().for_each(|p| *p *= 2);
+            }
+            _ => {
+                self.others = self.chain();
+                self.powers = 0;
+                self.others.iter_mut().for_each(|p| *p *= 3);
+            }
+        }
+    }
+
+    /// The same undone, on the way to 1.
+    fn undo_letter(&mut self, letter: u8) {
+        match letter {
+            1 => self.powers -= 1,
+            2 => {
+                self.powers /= 2;
+                self.others.iter_mut().for_each(|p| *p /= 2);
+            }
+            _ => {
+                self.others.iter_mut().for_each(|p| *p /= 3);
+                *self = TreeChain::new(&self.others);
+            }
+        }
+    }
+}
+
+/// The number of a tree word.
+fn tree_number(letters: &[u8]) -> Option<u64> {
+    let mut n: u64 = 1;
+    for &l in letters.iter().rev() {
+        n = if l == 1 { n.checked_add(1)? } else { n.checked_mul(l as u64)? };
+    }
+    Some(n)
+}
+
+/// Whether the six rules of docs/LINES.md, 'Tree words', lead from n to 1 by these letters.
+fn follow_rules(mut n: u64, mut letters: &[u8]) -> bool {
+    while n > 1 {
+        (n, letters) = match (n % 6, letters) {
+            (0 | 3, [3, rest @ ..]) => (n / 3, rest),
+            (0 | 1, [1, rest @ ..]) => (n - 1, rest),
+            (2 | 4, [2, rest @ ..]) => (n / 2, rest),
+            (3 | 5, [1, 2, rest @ ..]) => ((n - 1) / 2, rest),
+            (4, [1, 3, rest @ ..]) => ((n - 1) / 3, rest),
+            _ => return false,
+        };
+    }
+    letters.is_empty()
+}
+
+fn read_tree(ts: &Tables, letters: &[u8], t: &mut Table) -> Result<Chain, u8> {
+    if letters.iter().any(|&l| l < 1 || l > 3) {
+        return Err(15);
+    }
+    let n = tree_number(letters).ok_or(10)?;
+    if !follow_rules(n, letters) {
+        return Err(15);
+    }
+    let mut chain = TreeChain::new(&[1]);
+    for &l in letters.iter().rev() {
+        chain.by_letter(l);
+    }
+    let numbers: Vec<u16> = chain.chain().iter().map(|p| ts.parts.binary_search(p).unwrap() as u16).collect();
+    read_record(ts, &numbers, t)
+}
+
+fn write_tree(ts: &Tables, numbers: &[u16]) -> Result<Vec<u8>, u8> {
+    let (mut n, parts) = record_parts(ts, numbers)?;
+    if n == 0 {
+        return Err(15);
+    }
+    let mut chain = TreeChain::new(&parts);
+    let mut word = Vec::new();
+    while n > 1 {
+        let (letters, next): (&[u8], u64) = match n % 6 {
+            0 | 3 if chain.is_multiple_of_3() => (&[3], n / 3),
+            0 | 1 => (&[1], n - 1),
+            2 | 4 if chain.is_even() => (&[2], n / 2),
+            4 => (&[1, 3], (n - 1) / 3),
+            _ => (&[1, 2], (n - 1) / 2),
+        };
+        for &l in letters {
+            chain.undo_letter(l);
+            word.push(l);
+        }
+        n = next;
+    }
+    Ok(word)
+}
+
 fn digits(out: &mut String, v: u64, bytes: usize) {
     out.push_str(&format!("{:0w$X}", v, w = bytes * 2));
 }
@@ -362,6 +490,15 @@ fn chain_reply(c: &Chain, price: bool) -> String {
 fn single_reply(v: u64) -> String {
     let mut out = String::from("00");
     digits(&mut out, v, 8);
+    out
+}
+
+fn letters_reply(letters: &[u8]) -> String {
+    let mut out = String::from("00");
+    digits(&mut out, letters.len() as u64, 1);
+    for &l in letters {
+        digits(&mut out, l as u64, 1);
+    }
     out
 }
 
@@ -393,8 +530,8 @@ fn answer(ts: &Tables, line: &[u8], t: &mut Table) -> Result<String, u8> {
         1 => 9,
         2 => 20,
         3 => 17,
-        4 => 2 + 2 * count_byte,
-        5 | 6 => 2 + count_byte,
+        4 | 9 => 2 + 2 * count_byte,
+        5 | 6 | 8 => 2 + count_byte,
         7 => 18 + 2 * count_byte,
         _ => return Err(4),
     };
@@ -421,6 +558,8 @@ fn answer(ts: &Tables, line: &[u8], t: &mut Table) -> Result<String, u8> {
         4 => read_record(ts, &part_numbers(&bytes[2..]), t).map(|c| chain_reply(&c, false)),
         5 => read_word(ts, &bytes[2..], t).map(|c| chain_reply(&c, false)),
         7 => run_chain(ts, &part_numbers(&bytes[18..]), n, number(&bytes[9..17])).map(single_reply),
+        8 => read_tree(ts, &bytes[2..], t).map(|c| chain_reply(&c, false)),
+        9 => write_tree(ts, &part_numbers(&bytes[2..])).map(|letters| letters_reply(&letters)),
         _ => {
             let c = read_word(ts, &bytes[2..], t)?;
             if c.position + 1 >= count(ts, c.n, t) {

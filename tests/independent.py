@@ -8,8 +8,9 @@
 Small numbers: all chains from the definition, by search over divisors from the largest part down (chains_up_to, chains_of); their words
 by walking the points; their order by sorting text. Any 64-bit number: the engine, tests/independent_engine.rs, which takes parts from the
 largest down by what n leaves modulo the part taken last. test_best finds its best chains by growth from the smallest part too
-(tests/grown.py). At every run check_003 holds the engine to the search, on whole lists, and check_one_price holds the replies to those that
-were stored when an addition had one price.
+(tests/grown.py). Tree words: the six lines as T-05 writes them, letters read on parts and undone on parts (tree_words, read_back,
+tree_word_of). At every run check_003 holds the engine to the search, on whole lists, check_one_price holds the replies to those that were
+stored when an addition had one price, and check_trees holds tree words to the chains that the search finds.
 
 Not shared with the crates:
 - any code;
@@ -18,10 +19,14 @@ Not shared with the crates:
 - the two readers: here a pattern on text says whether a word is good;
 - positions by adding up, along a word, the chains that turn off to a: here all words are compared as text, many at a time;
 - the best chain's numeric keys: here parts, price and text are compared;
-- the run of a chain along its path, by doubling, tripling and adding modulo m: here n × x modulo m, in integers of any size.
+- the run of a chain along its path, by doubling, tripling and adding modulo m: here n × x modulo m, in integers of any size;
+- tree words by way of path words, with the letters 1 that are owed: here every letter multiplies or adds to the parts themselves, and a
+  chain's tree word is found by undoing letters on its parts. No path word is used;
+- the tree letter that n and the path's next rise decide: here both ways are tried, and exactly one word must come of it;
+- the test of a tree word from its first letter on: here from its last letter back, which of its ends are tree words.
 
 Shared with the crates:
-- the definitions of documents 01 and 02 and of 003, and the order of the refusals;
+- the definitions of documents 01 and 02 and of 003, T-05's six lines among them, and the order of the refusals;
 - that what follows a part sums to less than the part;
 - that a best chain is best up to each of its points, so that one chain a point is enough;
 - that the letters between two parts are those of a run of b and a run of a. The engine writes them so, as crates/words does; word_of below
@@ -208,6 +213,114 @@ def good(word):
     return re.fullmatch("[0-3]*3", word) is not None and "02" not in word and "12" not in word
 
 
+# ---- tree words: T-05, and 003's figure 1
+
+# The letters that a number above 1 may have next, by its remainder modulo six.
+SIX_LINES = {0: ("3", "1"), 1: ("1",), 2: ("2",), 3: ("3", "12"), 4: ("2", "13"), 5: ("12",)}
+RISES = {"2": (1, 0), "3": (0, 1)}  # what a letter that multiplies adds to a and b of every part
+ONE = [(0, 0)]  # the chain of 1
+LONGEST_TREE = 157  # letters: those of the chain of 2^64 - 1 whose parts are all powers of two
+
+
+def ways_from(n):
+    """What the six lines allow from a number above 1: the letters, and the number that they go on with."""
+    for letters in SIX_LINES[n % 6]:
+        on = n
+        for letter in letters:
+            on = on - 1 if letter == "1" else on // int(letter)
+        yield letters, on
+
+
+def tree_words(n):
+    """All tree words of n: where there are two ways, both are tried."""
+    return [""] if n == 1 else [letters + word for letters, on in ways_from(n) for word in tree_words(on)]
+
+
+def tree_count(n):
+    """How many tree words n has: the numbers that its ways go on with have as many together. Each number is worked out once."""
+    known = {1: 1}
+
+    def counted(m):
+        if m not in known:
+            known[m] = sum(counted(on) for _, on in ways_from(m))
+        return known[m]
+
+    return counted(n)
+
+
+def numbers_back(word):
+    """The numbers that a word's ends are read back to, the shortest end first: 1, and then by each letter from the last back."""
+    return itertools.accumulate(reversed(word), lambda n, letter: n + 1 if letter == "1" else n * int(letter), initial=1)
+
+
+def tree_number(word):
+    """The number that a word is read back to. It need not be a tree word of it."""
+    return list(numbers_back(word))[-1]
+
+
+def is_tree(word):
+    """Whether the six lines produce the word from its number. From the last letter back: where the ends begin that they produce."""
+    begins = {len(word)}
+    for at, n in zip(reversed(range(len(word))), itertools.islice(numbers_back(word), 1, None)):
+        if any(word.startswith(letters, at) and at + len(letters) in begins for letters in SIX_LINES[n % 6]):
+            begins.add(at)
+    return 0 in begins
+
+
+def powers_of_two(chain):
+    """Their sum."""
+    return sum(2**a for a, b in chain if b == 0)
+
+
+def with_powers(chain, total):
+    """The chain with other powers of two: those that sum to `total`."""
+    return [p for p in chain if p[1] > 0] + [(a, 0) for a in range(total.bit_length(), -1, -1) if total >> a & 1]
+
+
+def read_back(word):
+    """The chain of a tree word: from 1, a letter 1 adds one to the sum of the powers of two, and 2 and 3 multiply every part."""
+    chain = ONE
+    for letter in reversed(word):
+        if letter == "1":
+            chain = with_powers(chain, powers_of_two(chain) + 1)
+        else:
+            chain = [(a + RISES[letter][0], b + RISES[letter][1]) for a, b in chain]
+    return chain
+
+
+def undone(chain, letter):
+    """The parts that a letter made these of, or None where there are none."""
+    if chain is None:
+        return None
+    if letter == "1":
+        powers = powers_of_two(chain)
+        return with_powers(chain, powers - 1) if powers else None
+    x, y = RISES[letter]
+    return [(a - x, b - y) for a, b in chain] if all(a >= x and b >= y for a, b in chain) else None
+
+
+def tree_words_of(chain):
+    """All tree words of its number that can be undone on the chain, letter by letter, to the end."""
+    waiting, found = [(sum_of(chain), chain, "")], []
+    while waiting:
+        n, parts, word = waiting.pop()
+        if n == 1:
+            found.append(word)
+            continue
+        for letters, on in ways_from(n):
+            below = functools.reduce(undone, letters, parts)
+            if below is not None:
+                waiting.append((on, below, word + letters))
+    return found
+
+
+def tree_word_of(chain):
+    """The tree word of a chain with at least one part: there is exactly one, it is read back to the chain, and it is not too long."""
+    (word,) = tree_words_of(chain)
+    assert read_back(word) == chain and len(word) <= LONGEST_TREE
+    return word
+
+
 def listing(most):
     """For each n to `most`: its chains with their words, in dictionary order."""
     return [sorted((word_of(c), c) for c in chains) for chains in chains_up_to(most)]
@@ -247,8 +360,11 @@ def check_003():
         check_list(n, entries)
     check_apart(lists)
     check_one_price()
+    check_trees(2000)
     for n in BY_SEARCH:
-        check_list(n, sorted((word_of(c), c) for c in chains_of(n)))
+        chains = chains_of(n)
+        check_list(n, sorted((word_of(c), c) for c in chains))
+        check_trees_of(n, chains)
     chance = random.Random(3)
     for n in [*EDGES, *SPECIAL, *(chance.getrandbits(64) for _ in range(100))]:
         check_relations(min(n, LIMIT - 6) // 6)
@@ -289,6 +405,25 @@ def check_one_price():
     assert len(set(lines_of(file))) == 2086 and {reply_to(line) for line in lines_of(file)} == {"02"}
 
 
+def check_trees(most):
+    """The four words of figure 1; all tree words of numbers to `most`; which words of up to eight letters are tree words; the longest."""
+    assert sorted(tree_words(19)) == sorted("1112222 1112213 1332 131122".split()) and tree_words(1) == [""]
+    for n, chains in enumerate(chains_up_to(most)):
+        if n:
+            check_trees_of(n, chains)
+    # a word of eight letters is read back to 3^8 at most
+    trees = {word for n in range(1, 3**8 + 1) for word in tree_words(n) if len(word) <= 8}
+    assert trees == {word for word in short_words(8) if is_tree(word)}
+    assert tree_word_of(LONGEST_CHAIN) == "12" + "11122" * 31 and {len(tree_word_of(c)) for c in LONGEST_CHAINS} == {LONGEST_TREE}
+
+
+def check_trees_of(n, chains):
+    """Read back, the tree words of n are all its chains, each once. Each chain leads to its word again, and the word to its number."""
+    trees = tree_words(n)
+    assert sorted(map(read_back, trees)) == sorted(chains) and tree_count(n) == len(trees)
+    assert all(tree_number(word) == n and is_tree(word) and tree_word_of(read_back(word)) == word for word in trees)
+
+
 def check_relations(u):
     """003's relations 6 and 7, which the engine does not use."""
     w = count
@@ -300,8 +435,9 @@ def check_relations(u):
 def check_back(n, chance):
     """A position and its word lead to each other, and words ascend with their positions; a word with another sum has no position.
 
-    The chains found run to one residue.
+    The chains found run to one residue. There are as many tree words as chains, and each chain found has one that leads back.
     """
+    assert tree_count(n) == count(n)
     positions = sorted({0, count(n) - 1, *(chance.randrange(count(n)) for _ in range(3))})
     words = [word_at(n, i) for i in positions]
     assert words == sorted(words) and ask("at", n, count(n)) is None
@@ -311,6 +447,7 @@ def check_back(n, chance):
         chain = chain_of(word)
         assert good(word) and word_of(chain) == word and sum_of(chain) == n and position_of(word) == i
         assert ask("position", n ^ 1, word) is None
+        assert is_tree(tree_word_of(chain)) and tree_number(tree_word_of(chain)) == n
 
 
 # ---- lines and replies
@@ -367,6 +504,30 @@ def reply_to_word(letters, following):
     return chain_reply(n, chain_of(word_at(n, position))) if position < count(n) else "0B"
 
 
+def reply_to_tree(letters):
+    """A letter that is none comes first, then the number, then the six lines."""
+    if any(not 1 <= letter <= 3 for letter in letters):
+        return "0F"
+    word = text_of(letters)
+    n = tree_number(word)
+    if n >= LIMIT:
+        return "0A"
+    if not is_tree(word):
+        return "0F"
+    chain = read_back(word)
+    assert tree_word_of(chain) == word and sum_of(chain) == n
+    return chain_reply(n, chain)
+
+
+def reply_to_tree_of(numbers):
+    """The tree word of a record's chain. The empty chain has none."""
+    refusal = refusal_of_record(numbers) or (None if numbers else 15)
+    if refusal:
+        return f"{refusal:02X}"
+    word = tree_word_of([TABLE[i] for i in numbers])
+    return f"00{len(word):02X}" + "".join(f"{int(letter):02X}" for letter in word)
+
+
 def reply_to(line):
     """The reply to one line of a file, given without its byte 10."""
     if len(line) == 0 or len(line) % 2 or len(line) > 514:
@@ -377,7 +538,7 @@ def reply_to(line):
     kind = data[0]
     counted_at = 17 if kind == 7 else 1
     more = data[counted_at] if len(data) > counted_at else 0
-    lengths = {1: 9, 2: 20, 3: 17, 4: 2 + 2 * more, 5: 2 + more, 6: 2 + more, 7: 18 + 2 * more}
+    lengths = {1: 9, 2: 20, 3: 17, 4: 2 + 2 * more, 5: 2 + more, 6: 2 + more, 7: 18 + 2 * more, 8: 2 + more, 9: 2 + 2 * more}
     if kind not in lengths:
         return "04"
     if len(data) != lengths[kind]:
@@ -391,10 +552,12 @@ def reply_to(line):
     if kind == 3:
         n, position = number(1, 8), number(9, 8)
         return chain_reply(n, chain_of(word_at(n, position))) if position < count(n) else "06"
-    if kind in (4, 7):
+    if kind in (4, 7, 9):
         numbers = [number(counted_at + 1 + 2 * i, 2) for i in range(more)]
-        return reply_to_record(numbers) if kind == 4 else reply_to_run(number(1, 8), number(9, 8), numbers)
-    return reply_to_word(list(data[2:]), kind == 6)
+        if kind == 7:
+            return reply_to_run(number(1, 8), number(9, 8), numbers)
+        return reply_to_record(numbers) if kind == 4 else reply_to_tree_of(numbers)
+    return reply_to_tree(data[2:]) if kind == 8 else reply_to_word(list(data[2:]), kind == 6)
 
 
 def lines_of(file):
@@ -419,16 +582,33 @@ def best_line(n, limits, prices):
     return hexed((2, 1), (n, 8), *((x, 1) for x in limits), *((x, 2) for x in prices))
 
 
+def letters_line(kind, letters, k=None):
+    """With another count than there are letters, where one is named."""
+    return hexed((kind, 1), (len(letters) if k is None else k, 1), *((letter, 1) for letter in letters))
+
+
 def word_line(kind, word):
-    return hexed((kind, 1), (len(word), 1), *((int(letter), 1) for letter in word))
+    return letters_line(kind, [int(letter) for letter in word])
 
 
 def numbers_of(chain):
     return [NUMBER[p] for p in chain]
 
 
-def chain_line(chain):
-    return hexed((4, 1), (len(chain), 1), *((i, 2) for i in numbers_of(chain)))
+def record_of(kind, numbers, k=None):
+    """With another count than there are numbers, where one is named."""
+    return hexed((kind, 1), (len(numbers) if k is None else k, 1), *((i, 2) for i in numbers))
+
+
+def chain_line(chain, kind=4):
+    return record_of(kind, numbers_of(chain))
+
+
+def tree_lines(chain):
+    """A chain as kind 09, and its tree word as kind 08, which the empty chain lacks."""
+    yield chain_line(chain, 9)
+    if chain:
+        yield word_line(8, tree_word_of(chain))
 
 
 def run_line(m, x, numbers, k=None):
@@ -451,6 +631,7 @@ def small_file(most):
             yield word_line(5, word)
             yield word_line(6, word)
             yield run_line(m, x, numbers_of(chain_of(word)))
+            yield from tree_lines(chain_of(word))
 
 
 def refused_file():
@@ -465,12 +646,12 @@ def refused_file():
         yield bytes([byte]) * 2
         yield bytes([byte]) + good_line
     yield good_line + b"\r"
-    # kinds that there are not, and 07, which is longer
-    for kind in (0, 7, 8, 10, 127, 128, 255):
+    # kinds that there are not, and 07 to 09, which have another length
+    for kind in (0, 7, 8, 9, 10, 11, 127, 128, 255):
         yield hexed((kind, 1))
         yield hexed((kind, 1), (19, 8))
         yield hexed((kind, 1), (19, 8)) + b"x"
-    for kind in range(1, 8):
+    for kind in range(1, 10):
         for extra in range(0, 22):
             yield hexed((kind, 1)) + b"00" * extra
     # a character that is none against the length of the kind, and against each kind's own refusals
@@ -554,7 +735,7 @@ def run_file():
     # the other kinds' lines as kind 07, and kind 07's as others
     for line in (*LISTING.split(b"\n")[:5], best_line(0, (0, 0, 0), (0, 0, 1, 0)), word_line(6, "3013")):
         yield b"07" + line[2:]
-    for kind in (0, 1, 2, 3, 4, 5, 6, 8, 9, 15, 23, 112, 135, 255):
+    for kind in (0, 1, 2, 3, 4, 5, 6, 8, 9, 10, 15, 23, 112, 135, 255):
         yield hexed((kind, 1)) + run_line(97, 96, [9, 0])[2:]
         yield hexed((kind, 1)) + run_line(0, 1, [1344])[2:]
 
@@ -603,11 +784,139 @@ def price_lengths():
         yield b"02" + line[2:]
 
 
+LONGEST_CHAIN = [TABLE[i] for i in TWOS]  # of 2^64 - 1: its tree word has 157 letters, and there is no longer one
+# It, and it without one part whose a is odd, up to 61: these have tree words of 157 letters too.
+LONGEST_CHAINS = [LONGEST_CHAIN, *([p for p in LONGEST_CHAIN if p != (a, 0)] for a in range(1, 63, 2))]
+
+
+def short_words(most):
+    """All words over 1 to 3 of up to so many letters."""
+    return ("".join(word) for k in range(most + 1) for word in itertools.product("123", repeat=k))
+
+
+def some_chain(n, chance):
+    return chain_of(word_at(n, chance.randrange(count(n))))
+
+
+def altered(word, chance):
+    """A word with one change at one place: another letter, a letter more or less, or two letters exchanged."""
+    at, letter = chance.randrange(len(word) + 1), chance.choice("123")
+    before, here, after = word[:at], word[at : at + 1], word[at + 1 :]
+    return chance.choice((before + letter + after, before + letter + here + after, before + after, before + after[:1] + here + after[1:]))
+
+
+def same_chain(word):
+    """Words that are read back to the same chain, so they are no tree words: read back, 21 and 112 do the same, and so do 2 and 1 at the end."""
+    for old, new in ("21", "112"), ("112", "21"):
+        for at in range(len(word)):
+            if word.startswith(old, at):
+                yield word[:at] + new + word[at + len(old) :]
+    if word.endswith("2"):
+        yield word[:-1] + "1"
+
+
+def tree_file():
+    """Lines of kinds 08 and 09: all short words, words of every size with small faults, records, and all chains of 201 to 500."""
+    yield from (word_line(8, word) for word in short_words(8))
+    yield from tree_letters()
+    yield from tree_edges()
+    yield from tree_lengths()
+    yield from near_trees()
+    yield from tree_records()
+    for chains in chains_up_to(500)[201:]:
+        for chain in chains:
+            yield from tree_lines(chain)
+
+
+def tree_letters():
+    """A letter that is none, at the first place, in the middle and at the last: in tree words, in others, and in words that reach 2^64."""
+    long = tree_word_of(LONGEST_CHAIN)
+    for word in ("", "2", "1", "1332", "1112213", "1111", "3333333", long, "1" + long, "2" * 64, "3" * 41, "1" * 254, "2" * 254, "3" * 254):
+        letters = [int(letter) for letter in word]
+        for letter, at in itertools.product((0, 4, 255), sorted({0, len(word) // 2, len(word)})):
+            yield letters_line(8, letters[:at] + [letter] + letters[at:])
+    # digits as text, each bit of a byte, and letters that are none alone
+    for letter in (*b"123", *(2**i for i in range(8)), *(2**i + 1 for i in range(2, 8)), 17, 18, 19, 48, 254):
+        yield letters_line(8, [1, letter, 2])
+    for letter in (0, 4, 255):
+        yield letters_line(8, [letter] * 255)
+
+
+def tree_edges():
+    """Words whose numbers reach 2^64 or just do not. A product that is cut to 64 bits would often be a small number again."""
+    top = LIMIT - 1
+    for letter, last in ("1", top), ("2", top // 2), ("3", top // 3):
+        for n in range(last - 2, min(last + 3, LIMIT)):
+            for position in sorted({0, count(n) // 2, count(n) - 1}):
+                word = tree_word_of(chain_of(word_at(n, position)))
+                yield from (word_line(8, front + letter + word) for front in ("", "1", "2", "3", "11", "33"))
+    for chain in LONGEST_CHAINS:
+        yield from tree_lines(chain)
+    for n in EDGES + SPECIAL:
+        for position in sorted({0, count(n) - 1}):
+            yield from tree_lines(chain_of(word_at(n, position)))
+
+
+def long_words(long):
+    """Words of one letter, words of one letter in front of others, and the first and last letters of some; `long` is a longest tree word."""
+    for k in (39, 40, 41, 42, 62, 63, 64, 65, 66, 127, 128, 156, 157, 158, 159, 160, 161, 254, 255):
+        for end in ("", "2" * 62, "2" * 63, "3" * 40, "12" * 31, long[2:], long[:-3], long):
+            yield from (letter * (k - len(end)) + end for letter in "123")
+            yield from (end[:k], end[-k:])
+
+
+def tree_lengths():
+    """Words with the lengths of the longest ones; counts that are not those of the letters; lines that end too early or too late."""
+    long = tree_word_of(LONGEST_CHAIN)
+    yield from (word_line(8, word) for word in dict.fromkeys(long_words(long)))
+    for word, k in itertools.product(("", "2", "1332", long, "1" * 255), (0, 1, 2, 3, 4, 5, 156, 157, 158, 254, 255)):
+        if k != len(word):
+            yield letters_line(8, [int(letter) for letter in word], k)
+    # characters more or less, and one that is none
+    for line in (*(word_line(8, word) for word in ("1332", "11", "", long)), record_of(9, [9, 0]), record_of(9, [])):
+        yield from (line[:-1], line + b"0", line + b"00", line + b"02")
+        yield from (line[:at] + b"G" + line[at + 1 :] for at in (0, 1, 2, len(line) - 1))
+
+
+def near_trees():
+    """Random tree words with one change, at about every place, and other words that are read back to the same chain."""
+    chance = random.Random(8)
+    for bits in (8, 16, 24, 32, 48, 64):
+        for _ in range(6):
+            chain = some_chain(chance.randrange(1, 2**bits), chance)
+            word, others = tree_word_of(chain), list(same_chain(tree_word_of(chain)))
+            assert all(read_back(other) == chain and not is_tree(other) for other in others)
+            yield from tree_lines(chain)
+            yield from (word_line(8, other) for other in dict.fromkeys([*(altered(word, chance) for _ in word), *others]))
+
+
+def tree_records():
+    """Kind 09: records at 2^64 and refused ones, the empty one among them; wrong counts of numbers; the other kinds' lines as 08 and 09."""
+    for numbers in RECORDS:
+        yield record_of(9, numbers)
+    # 2^64 and more, and 2^64 - 1
+    for chain in ([(62, 1), (62, 0)], [(62, 1), (61, 1)], [(62, 1), *LONGEST_CHAIN[1:]], [(62, 1), *LONGEST_CHAIN[2:]]):
+        yield chain_line(chain, 9)
+    # 8 against 9 and 10, 9 against 10
+    for numbers in ([1344, 1344], [1343, 1343], [1343, 1344], [0, 1343, 1344], [1343, 1343, 2000], [0, 1343, 1343], [65535], [256], [0, 0]):
+        yield record_of(9, numbers)
+    for k in (1, 2, 40, 41, 63, 64, 65, 66, 127):
+        for numbers in ([0] * k, [1344] * k, (TWOS * 2)[:k], (TWOS * 2)[-k:], (THREES * 4)[:k], list(range(k, 0, -1))):
+            yield record_of(9, numbers)
+    for numbers, k in itertools.product(([], [0], TWOS, TWOS[1:], [0] * 127), (0, 1, 2, 63, 64, 65, 126, 127, 128, 255)):
+        if k != len(numbers):
+            yield record_of(9, numbers, k)
+    for line in (*LISTING.split(b"\n")[:5], word_line(5, "3203"), word_line(5, "1133"), word_line(6, "3013"), run_line(97, 96, [9, 0])):
+        yield from (b"08" + line[2:], b"09" + line[2:])
+    for line in (*tree_lines([(1, 2), (0, 0)]), *tree_lines([(1, 1), (0, 0)])):  # 18 + 1 and 6 + 1
+        yield from (hexed((kind, 1)) + line[2:] for kind in range(12))
+
+
 KINDS = (1, 1, 1, 2, 3, 3, 3, 4, 4, 4, 5, 5, 6, 6)  # as often as they are drawn
-KINDS_AND_RUNS = (*KINDS, 7, 7, 7)
+ALL_KINDS = (*KINDS, 7, 7, 7, 8, 8, 8, 9, 9)
 
 
-def some_lines(seed, times, kinds=KINDS_AND_RUNS):
+def some_lines(seed, times, kinds=ALL_KINDS):
     """Random and damaged lines of these kinds, with numbers of all sizes."""
     chance = random.Random(seed)
 
@@ -624,6 +933,11 @@ def some_lines(seed, times, kinds=KINDS_AND_RUNS):
         x = chance.choice(residues_at(m)) if chance.randrange(5) == 0 else chance.randrange(m or 1)
         return run_line(m, x, chance.choice(RECORDS) if chance.randrange(10) == 0 else numbers)
 
+    def some_tree(chain):
+        """The chain's tree word, or now and then one that is nearly it."""
+        word = tree_word_of(chain) if chain else ""
+        return altered(word, chance) if chance.randrange(4) == 0 else word
+
     def line():
         kind = chance.choice(kinds)
         n = number()
@@ -637,7 +951,9 @@ def some_lines(seed, times, kinds=KINDS_AND_RUNS):
         word = some_word()
         if kind == 7:
             return some_run(numbers_of(chain_of(word)))
-        return chain_line(chain_of(word)) if kind == 4 else word_line(kind, word)
+        if kind == 8:
+            return word_line(8, some_tree(chain_of(word)))
+        return chain_line(chain_of(word), kind) if kind in (4, 9) else word_line(kind, word)
 
     def damaged(text):
         way, at = chance.randrange(6), chance.randrange(len(text))
@@ -671,7 +987,8 @@ def cased_file():
     last = [word_line(6, word_at(n, count(n) - 1)) for n in EDGES]
     runs = [*itertools.islice(run_file(), 0, None, 4), *some_lines(6, 100, [7])]
     priced = itertools.islice(price_file(), 0, None, 4)
-    for line in [*some_lines(5, 400, KINDS), *refused_file(), *last, *runs, *priced]:
+    trees = [*tree_records(), *some_lines(9, 100, [8, 9])]
+    for line in [*some_lines(5, 400, KINDS), *refused_file(), *last, *runs, *priced, *trees]:
         if re.search(rb"[A-F]", line):
             yield from (line.upper(), line.lower(), recased(line, chance))
 
@@ -1048,10 +1365,11 @@ def test_parts():
 def lines():
     """Every kind for all numbers to 200; refusals; prices; both cases; random and damaged lines; empty lines; a last line without byte 10.
 
-    Lines of kind 07 are drawn apart, so that the random lines of the other kinds stay as they were.
+    Lines of kind 07, and those of kinds 08 and 09, are drawn apart, so that the random lines of the other kinds stay as they were.
     """
-    some = [b"", b"", *some_lines(1, 20000, KINDS), *some_lines(7, 800, [7]), b"", LISTING.split(b"\n")[0]]
-    return b"\n".join([*small_file(200), *refused_file(), *run_file(), *price_file(), *cased_file(), *some])
+    drawn = [*some_lines(1, 20000, KINDS), *some_lines(7, 800, [7]), *some_lines(8, 800, [8, 9])]
+    some = [b"", b"", *drawn, b"", LISTING.split(b"\n")[0]]
+    return b"\n".join([*small_file(200), *refused_file(), *run_file(), *price_file(), *tree_file(), *cased_file(), *some])
 
 
 @what

@@ -1,9 +1,9 @@
 /* Double-base chains from C and C++.
  *
  * A chain writes a number as a sum of parts 2^a * 3^b, each a proper multiple of the next. The functions count the chains of a
- * number, find its best chain, run a chain on a residue, and reply to a line of hexadecimal. Each is proved to answer and to leave
- * behind exactly what its contract in crates/meltsjuk/src/lib.rt says, for every argument. `rt staticlib meltsjuk` writes the
- * archive target/staticlib/libmeltsjuk.a, for x86-64 Linux:
+ * number, find its best chain, run a chain on a residue, read and write tree words, and reply to a line of hexadecimal. Each is
+ * proved to answer and to leave behind exactly what its contract in crates/meltsjuk/src/lib.rt says, for every argument.
+ * `rt staticlib meltsjuk` writes the archive target/staticlib/libmeltsjuk.a, for x86-64 Linux:
  *
  *     cc -I bindings/c program.c target/staticlib/libmeltsjuk.a
  *
@@ -19,7 +19,8 @@
  * with a stack of MELTSJUK_STACK bytes can make every call. The caller's own functions and signal handlers need more on top.
  *
  * Too little lent is refused first of all, and then nothing is written. On every other return the first MELTSJUK_SCRATCH numbers of
- * the scratch are zero and those after them are as they were. More may be lent than is asked for. meltsjuk_run is lent no scratch.
+ * the scratch are zero and those after them are as they were. More may be lent than is asked for. meltsjuk_run and
+ * meltsjuk_write_tree are lent no scratch.
  */
 #ifndef MELTSJUK_H
 #define MELTSJUK_H
@@ -27,21 +28,23 @@
 #include <stddef.h>
 #include <stdint.h>
 
-#define MELTSJUK_SCRATCH 512 /* a scratch has at least so many numbers; they take 4 KB */
-#define MELTSJUK_PLACES 64   /* at least so many places are lent for part numbers; a chain has no more parts */
-#define MELTSJUK_REPLY 514   /* at least so many bytes are lent for a reply */
-#define MELTSJUK_STACK 32768 /* a thread with so many bytes of stack can make any of the calls */
+#define MELTSJUK_SCRATCH 512     /* a scratch has at least so many numbers; they take 4 KB */
+#define MELTSJUK_PLACES 64       /* at least so many places are lent for part numbers; a chain has no more parts */
+#define MELTSJUK_TREE_PLACES 160 /* at least so many places are lent for the letters of a tree word; it has at most 157 */
+#define MELTSJUK_REPLY 514       /* at least so many bytes are lent for a reply */
+#define MELTSJUK_STACK 32768     /* a thread with so many bytes of stack can make any of the calls */
 
-/* The answers of meltsjuk_count, meltsjuk_best and meltsjuk_run; at each function stands which of them it gives. meltsjuk_reply
- * answers MELTSJUK_LITTLE_LENT too, and otherwise a length. */
-#define MELTSJUK_SERVED 0       /* the answer stands where the caller asked for it */
-#define MELTSJUK_LITTLE_LENT 1  /* too little is lent, and nothing was written */
-#define MELTSJUK_NONE_FITS 5    /* no chain is within the limits */
-#define MELTSJUK_NO_PART 8      /* a part number is 1344 or more, or there are more than 64 part numbers */
-#define MELTSJUK_NO_CHAIN 9     /* a part is not a proper multiple of the next */
-#define MELTSJUK_LARGE_SUM 10   /* the parts sum to 2^64 or more */
-#define MELTSJUK_BAD_MODULUS 13 /* the modulus is 0 or above 2^63 */
-#define MELTSJUK_NO_RESIDUE 14  /* x is not below the modulus */
+/* The answers of the functions but meltsjuk_reply; at each function stands which of them it gives. meltsjuk_reply answers
+ * MELTSJUK_LITTLE_LENT too, and otherwise a length. */
+#define MELTSJUK_SERVED 0        /* the answer stands where the caller asked for it */
+#define MELTSJUK_LITTLE_LENT 1   /* too little is lent, and nothing was written */
+#define MELTSJUK_NONE_FITS 5     /* no chain is within the limits */
+#define MELTSJUK_NO_PART 8       /* a part number is 1344 or more, or there are more than 64 part numbers */
+#define MELTSJUK_NO_CHAIN 9      /* a part is not a proper multiple of the next */
+#define MELTSJUK_LARGE_SUM 10    /* the parts sum to 2^64 or more, or the number of a tree word is 2^64 or more */
+#define MELTSJUK_BAD_MODULUS 13  /* the modulus is 0 or above 2^63 */
+#define MELTSJUK_NO_RESIDUE 14   /* x is not below the modulus */
+#define MELTSJUK_NO_TREE_WORD 15 /* the letters are no tree word, or the chain is empty and has none */
 
 #ifdef __cplusplus
 extern "C" {
@@ -52,8 +55,8 @@ extern "C" {
  *
  * Lent: the line; the scratch, MELTSJUK_SCRATCH numbers or more; `out`, MELTSJUK_REPLY bytes or more.
  * Answers how many digits the reply has, at least 2 and at most 512. They stand in `out`, then zeros up to MELTSJUK_REPLY, so that
- * the digits are a C string, and later bytes are as they were. A refused line's reply is the two digits of its number: 02 to 0B, 0D
- * or 0E.
+ * the digits are a C string, and later bytes are as they were. A refused line's reply is the two digits of its number: 02 to 0B, or
+ * 0D to 0F.
  * Answers MELTSJUK_LITTLE_LENT, which is no length, where the scratch or `out` is too short; then nothing was written. */
 uint64_t meltsjuk_reply(const uint8_t *line, size_t line_length, uint64_t *scratch, size_t scratch_length, uint8_t *out,
                         size_t out_length);
@@ -90,6 +93,31 @@ uint8_t meltsjuk_best(uint64_t n, uint8_t parts_limit, uint8_t a_limit, uint8_t 
  * Answers MELTSJUK_SERVED with the residue in *residue. Otherwise answers the first of these that holds, and *residue is as it was:
  * MELTSJUK_BAD_MODULUS, MELTSJUK_NO_RESIDUE, MELTSJUK_NO_PART, MELTSJUK_NO_CHAIN, MELTSJUK_LARGE_SUM. */
 uint8_t meltsjuk_run(const uint16_t *numbers, size_t numbers_length, uint64_t m, uint64_t x, uint64_t *residue);
+
+/* The chain of a tree word, which docs/LINES.md explains: n, the chain's position in the list of n's chains, and its parts. The
+ * letters are the bytes 1, 2 and 3. They are read from the last to the first. The chain begins as the part 1 alone; letter 1 adds
+ * one to the sum of its powers of two, and 2 and 3 multiply every part. The empty word is that of the chain 1.
+ *
+ * Lent: the letters, and where there are none the length is 0 and the pointer is not null; the scratch, MELTSJUK_SCRATCH numbers or
+ * more; MELTSJUK_PLACES places or more; one number each for n, the position and the number of parts.
+ * Answers MELTSJUK_SERVED with the three in *n, *position and *k. The first *k places hold the chain's part numbers, largest part
+ * first, as meltsjuk_best gives them. Then come zeros up to MELTSJUK_PLACES, and later places are as they were.
+ * Otherwise answers the first of these that holds, and the places and the three numbers are as they were: MELTSJUK_LITTLE_LENT;
+ * MELTSJUK_NO_TREE_WORD, where a letter is not 1, 2 or 3; MELTSJUK_LARGE_SUM, where the word's number is 2^64 or more: it begins as
+ * 1 and is taken plus one, times two or times three by the letters from the last to the first; MELTSJUK_NO_TREE_WORD, where the
+ * letters are not the word of any chain. */
+uint8_t meltsjuk_read_tree(const uint8_t *letters, size_t letters_length, uint64_t *scratch, size_t scratch_length,
+                           uint16_t *places, size_t places_length, uint64_t *n, uint64_t *position, uint64_t *k);
+
+/* The tree word of a chain. Every chain but the empty one has exactly one, and meltsjuk_read_tree leads back.
+ *
+ * Lent: the chain's part numbers, largest part first, as meltsjuk_best gives them; MELTSJUK_TREE_PLACES places or more; one number
+ * for the length of the word. No scratch is lent.
+ * Answers MELTSJUK_SERVED with the length in *k. The first *k places hold the letters, bytes 1 to 3. Then come zeros up to
+ * MELTSJUK_TREE_PLACES, and later places are as they were.
+ * Otherwise answers the first of these that holds, and the places and *k are as they were: MELTSJUK_LITTLE_LENT, MELTSJUK_NO_PART,
+ * MELTSJUK_NO_CHAIN, MELTSJUK_LARGE_SUM, and MELTSJUK_NO_TREE_WORD for the empty chain. */
+uint8_t meltsjuk_write_tree(const uint16_t *numbers, size_t numbers_length, uint8_t *places, size_t places_length, uint64_t *k);
 
 #ifdef __cplusplus
 }

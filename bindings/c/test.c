@@ -1,15 +1,16 @@
 /* The library from C, for tests/exports.
  *
  * Without an argument: the reply to each line of standard input, a line each, as the program `intake` writes them.
- * With the argument `calls`: the same for lines of kinds 01, 02 and 07 of the right length, by the calls for the count, the best
- * chain and the run of a chain, whose answers are written here as replies.
+ * With the argument `calls`: the same for lines of kinds 01, 02, 07, 08 and 09 of the right length, by the calls for the count, the
+ * best chain, the run of a chain and the two for tree words, whose answers are written here as replies.
  *
  * Every call is made on a thread with a stack of MELTSJUK_STACK bytes. The page below the stack must not be touched: a call that
  * needs more stack ends the program by a signal.
  *
  * Every scratch stands before a page that must not be touched either: a call that reads or writes past its end is stopped alike. A
  * scratch has MELTSJUK_SCRATCH numbers, one more, or 5,248. All bits are set before a call. After it the first MELTSJUK_SCRATCH
- * numbers must be zero and the others as they were. A scratch of one number less is refused and left as it was. */
+ * numbers must be zero and the others as they were. A scratch of one number less is refused and left as it was. The places for part
+ * numbers and for letters stand before such a page too. */
 #define _DEFAULT_SOURCE
 #define _POSIX_C_SOURCE 200809L
 #include "meltsjuk.h"
@@ -23,6 +24,8 @@
 #include <sys/types.h>
 #include <unistd.h>
 
+#define LATER 3 /* so many places are lent beyond those asked for; they must be as they were */
+
 /* A scratch to lend. */
 struct scratch {
     uint64_t *numbers;
@@ -30,8 +33,10 @@ struct scratch {
 };
 
 static struct scratch shorter, exact, longer, large;
-static uint16_t places[MELTSJUK_PLACES];
+static uint16_t *places, *more_places; /* MELTSJUK_PLACES of them, and LATER more */
+static uint8_t *tree_places, *more_tree_places; /* MELTSJUK_TREE_PLACES of them, and LATER more */
 static uint16_t numbers[255]; /* a line tells in one byte how many part numbers it has */
+static uint8_t letters[255]; /* or how many letters */
 static uint8_t out[MELTSJUK_REPLY];
 static pthread_attr_t small; /* a thread with just as much stack */
 
@@ -53,28 +58,36 @@ static void make_small(void)
          "a thread cannot have a stack of MELTSJUK_STACK bytes");
 }
 
-/* A scratch between two pages that must not be touched. It ends where the second begins. Where it fills whole pages, as 512 numbers
- * do, it begins where the first ends. */
-static struct scratch fenced(size_t length)
+/* So many bytes between two pages that must not be touched. They end where the second begins. Where they fill whole pages, as 512
+ * numbers do, they begin where the first ends. */
+static void *fenced(size_t bytes)
 {
     size_t page = (size_t)sysconf(_SC_PAGESIZE);
-    size_t room = (length * sizeof(uint64_t) + page - 1) / page * page;
+    size_t room = (bytes + page - 1) / page * page;
     char *memory = mmap(NULL, page + room + page, PROT_READ | PROT_WRITE, MAP_PRIVATE | MAP_ANONYMOUS, -1, 0);
-    struct scratch s;
 
     must(memory != MAP_FAILED && mprotect(memory, page, PROT_NONE) == 0 && mprotect(memory + page + room, page, PROT_NONE) == 0,
-         "no memory for a scratch");
-    s.numbers = (uint64_t *)(void *)(memory + page + room) - length;
-    s.length = length;
+         "no memory to lend");
+    return memory + page + room - bytes;
+}
+
+static struct scratch scratch_of(size_t length)
+{
+    struct scratch s = {fenced(length * sizeof(uint64_t)), length};
+
     return s;
 }
 
-static void make_scratches(void)
+static void make_memory(void)
 {
-    shorter = fenced(MELTSJUK_SCRATCH - 1);
-    exact = fenced(MELTSJUK_SCRATCH);
-    longer = fenced(MELTSJUK_SCRATCH + 1);
-    large = fenced(5248);
+    shorter = scratch_of(MELTSJUK_SCRATCH - 1);
+    exact = scratch_of(MELTSJUK_SCRATCH);
+    longer = scratch_of(MELTSJUK_SCRATCH + 1);
+    large = scratch_of(5248);
+    places = fenced(MELTSJUK_PLACES * sizeof(uint16_t));
+    more_places = fenced((MELTSJUK_PLACES + LATER) * sizeof(uint16_t));
+    tree_places = fenced(MELTSJUK_TREE_PLACES);
+    more_tree_places = fenced(MELTSJUK_TREE_PLACES + LATER);
 }
 
 /* The scratch for a line: the least that is served for most lines. */
@@ -83,11 +96,14 @@ static struct scratch scratch_for(uint64_t line)
     return line % 8 == 1 ? longer : line % 8 == 3 ? large : exact;
 }
 
-/* Sets all bits of the scratch, the places and the reply's bytes. */
+/* Sets all bits of the scratch, of the places and of the reply's bytes. */
 static void set_bits(struct scratch s)
 {
     memset(s.numbers, 0xFF, s.length * sizeof(uint64_t));
-    memset(places, 0xFF, sizeof places);
+    memset(places, 0xFF, MELTSJUK_PLACES * sizeof(uint16_t));
+    memset(more_places, 0xFF, (MELTSJUK_PLACES + LATER) * sizeof(uint16_t));
+    memset(tree_places, 0xFF, MELTSJUK_TREE_PLACES);
+    memset(more_tree_places, 0xFF, MELTSJUK_TREE_PLACES + LATER);
     memset(out, 0xFF, sizeof out);
 }
 
@@ -110,6 +126,28 @@ static int is_left(struct scratch s, size_t zeros)
            && is_all(s.numbers + zeros, (s.length - zeros) * sizeof(uint64_t), 0xFF);
 }
 
+/* Whether the places hold these part numbers and then zeros, and whether so many later places have all bits set. */
+static int are_parts(const uint16_t *lent, const uint16_t *parts, size_t k, size_t later)
+{
+    return memcmp(lent, parts, k * sizeof *parts) == 0 && is_all(lent + k, (MELTSJUK_PLACES - k) * sizeof *lent, 0)
+           && is_all(lent + MELTSJUK_PLACES, later * sizeof *lent, 0xFF);
+}
+
+/* The same for letters. */
+static int are_letters(const uint8_t *lent, const uint8_t *word, size_t k, size_t later)
+{
+    return memcmp(lent, word, k) == 0 && is_all(lent + k, MELTSJUK_TREE_PLACES - k, 0)
+           && is_all(lent + MELTSJUK_TREE_PLACES, later, 0xFF);
+}
+
+/* Whether all places have all bits set. */
+static int are_untouched(void)
+{
+    return is_all(places, MELTSJUK_PLACES * sizeof *places, 0xFF)
+           && is_all(more_places, (MELTSJUK_PLACES + LATER) * sizeof *more_places, 0xFF)
+           && is_all(tree_places, MELTSJUK_TREE_PLACES, 0xFF) && is_all(more_tree_places, MELTSJUK_TREE_PLACES + LATER, 0xFF);
+}
+
 static void on_small_stack(void *(*calls)(void *), void *argument)
 {
     pthread_t thread;
@@ -121,7 +159,9 @@ static void on_small_stack(void *(*calls)(void *), void *argument)
 static void *too_little(void *unused)
 {
     const uint8_t line[18] = "010000000000000013";
-    uint64_t count = 7, position = 7, k = 7, price = 7;
+    const uint8_t word[4] = {1, 3, 3, 2};
+    const uint16_t parts[2] = {9, 0}; /* 18 + 1 */
+    uint64_t count = 7, n = 7, position = 7, k = 7, price = 7;
 
     set_bits(shorter);
     set_bits(exact);
@@ -136,9 +176,18 @@ static void *too_little(void *unused)
     must(meltsjuk_best(19, 64, 63, 40, 4, 7, 8, 9, exact.numbers, exact.length, places, MELTSJUK_PLACES - 1, &position, &k, &price)
              == MELTSJUK_LITTLE_LENT,
          "a best chain with few places");
+    must(meltsjuk_read_tree(word, 4, shorter.numbers, shorter.length, places, MELTSJUK_PLACES, &n, &position, &k)
+             == MELTSJUK_LITTLE_LENT,
+         "a tree word read with a short scratch");
+    must(meltsjuk_read_tree(word, 4, exact.numbers, exact.length, places, MELTSJUK_PLACES - 1, &n, &position, &k)
+             == MELTSJUK_LITTLE_LENT,
+         "a tree word read with few places");
+    must(meltsjuk_write_tree(parts, 2, tree_places, MELTSJUK_TREE_PLACES - 1, &k) == MELTSJUK_LITTLE_LENT,
+         "a tree word written with few places");
+    must(meltsjuk_write_tree(parts, 0, tree_places, 0, &k) == MELTSJUK_LITTLE_LENT, "a tree word written with no places");
     must(is_left(shorter, 0) && is_left(exact, 0), "a scratch written although it was refused");
-    must(is_all(places, sizeof places, 0xFF) && is_all(out, sizeof out, 0xFF), "memory written although it was refused");
-    must(count == 7 && position == 7 && k == 7 && price == 7, "numbers written although they were refused");
+    must(are_untouched() && is_all(out, sizeof out, 0xFF), "memory written although it was refused");
+    must(count == 7 && n == 7 && position == 7 && k == 7 && price == 7, "numbers written although they were refused");
     return unused;
 }
 
@@ -147,6 +196,7 @@ static void *served(void *scratch)
 {
     const struct scratch s = *(const struct scratch *)scratch;
     const uint8_t line[18] = "010000000000000013";
+    const uint16_t parts[2] = {9, 0}; /* 18 + 1 */
     uint64_t count = 7, position = 7, k = 7, price = 7;
 
     set_bits(s);
@@ -160,9 +210,70 @@ static void *served(void *scratch)
     must(meltsjuk_best(19, 64, 63, 40, 4, 7, 8, 9, s.numbers, s.length, places, MELTSJUK_PLACES, &position, &k, &price)
              == MELTSJUK_SERVED,
          "the best chain of 19");
-    must(position == 3 && k == 2 && price == 27 && places[0] == 9 && is_all(places + 1, sizeof places - sizeof places[0], 0),
-         "what a best chain leaves"); /* 18 + 1, which are the parts 9 and 0; the addition costs s3 = 9 */
+    must(position == 3 && k == 2 && price == 27 && are_parts(places, parts, 2, 0),
+         "what a best chain leaves"); /* the addition costs s3 = 9 */
     must(is_left(s, MELTSJUK_SCRATCH), "what a best chain leaves in the scratch");
+    return NULL;
+}
+
+/* A tree word with its chain. */
+struct tree {
+    const uint8_t *word;
+    size_t length;
+    uint64_t n, position;
+    const uint16_t *parts;
+    size_t k;
+};
+
+/* Reads the tree word with this scratch and so many later places, and writes it again. */
+static void tree_both_ways(struct scratch s, struct tree t, size_t later)
+{
+    uint16_t *for_parts = later > 0 ? more_places : places;
+    uint8_t *for_letters = later > 0 ? more_tree_places : tree_places;
+    uint64_t n = 7, position = 7, k = 7, length = 7;
+
+    set_bits(s);
+    must(meltsjuk_read_tree(t.word, t.length, s.numbers, s.length, for_parts, MELTSJUK_PLACES + later, &n, &position, &k)
+             == MELTSJUK_SERVED,
+         "a tree word is not read");
+    must(n == t.n && position == t.position && k == t.k, "what the reading of a tree word tells");
+    must(are_parts(for_parts, t.parts, t.k, later), "what the reading of a tree word leaves");
+    must(is_left(s, MELTSJUK_SCRATCH), "what the reading of a tree word leaves in the scratch");
+    must(meltsjuk_write_tree(t.parts, t.k, for_letters, MELTSJUK_TREE_PLACES + later, &length) == MELTSJUK_SERVED,
+         "a tree word is not written");
+    must(length == t.length && are_letters(for_letters, t.word, t.length, later), "what the writing of a tree word leaves");
+}
+
+/* Tree words, with this scratch: the four of 19, the empty one, and the longest there is. */
+static void *served_trees(void *scratch)
+{
+    static const uint8_t words[4][7] = {{1, 1, 1, 2, 2, 2, 2}, {1, 1, 1, 2, 2, 1, 3}, {1, 3, 1, 1, 2, 2}, {1, 3, 3, 2}};
+    static const uint16_t parts[4][4] = {{8, 1, 0}, {7, 3, 1, 0}, {7, 4, 0}, {9, 0}}; /* 16 2 1, 12 4 2 1, 12 6 1, 18 1 */
+    const struct scratch s = *(const struct scratch *)scratch;
+    uint16_t powers[MELTSJUK_PLACES];
+    uint8_t longest[157] = {1, 2};
+    uint64_t position = 7, k = 7, price = 7;
+
+    must(meltsjuk_best(UINT64_MAX, 64, 63, 0, 0, 0, 0, 0, s.numbers, s.length, powers, MELTSJUK_PLACES, &position, &k, &price)
+                 == MELTSJUK_SERVED
+             && k == 64,
+         "the binary chain of 2^64 - 1");
+    for (size_t i = 0; i < 155; i++)
+        longest[2 + i] = words[0][i % 5]; /* 11122 again and again */
+
+    const struct tree trees[6] = {
+        {words[0], 7, 19, 0, parts[0], 3},
+        {words[1], 7, 19, 1, parts[1], 4},
+        {words[2], 6, 19, 2, parts[2], 3},
+        {words[3], 4, 19, 3, parts[3], 2},
+        {words[0], 0, 1, 0, parts[0] + 2, 1},
+        {longest, 157, UINT64_MAX, position, powers, 64},
+    };
+
+    for (size_t i = 0; i < 6; i++) {
+        tree_both_ways(s, trees[i], 0);
+        tree_both_ways(s, trees[i], LATER);
+    }
     return NULL;
 }
 
@@ -179,9 +290,63 @@ static void *refused(void *scratch)
     must(meltsjuk_best(5, 1, 63, 40, 4, 7, 8, 9, s.numbers, s.length, places, MELTSJUK_PLACES, &position, &k, &price)
              == MELTSJUK_NONE_FITS,
          "a chain of one part for 5");
-    must(is_left(s, MELTSJUK_SCRATCH) && is_all(places, sizeof places, 0xFF), "what is left where none fits");
+    must(is_left(s, MELTSJUK_SCRATCH) && are_untouched(), "what is left where none fits");
     must(position == 7 && k == 7 && price == 7, "numbers written although none fits");
     return NULL;
+}
+
+/* Letters that are refused, with this scratch: it is zeroed, and the places and the three numbers are as they were. */
+static void tree_refused(struct scratch s, const uint8_t *word, size_t length, uint8_t refusal, const char *what)
+{
+    uint64_t n = 7, position = 7, k = 7;
+
+    set_bits(s);
+    must(meltsjuk_read_tree(word, length, s.numbers, s.length, more_places, MELTSJUK_PLACES + LATER, &n, &position, &k) == refusal,
+         what);
+    must(is_left(s, MELTSJUK_SCRATCH) && are_untouched() && n == 7 && position == 7 && k == 7,
+         "what is left where a tree word is not read");
+}
+
+/* Each refusal of a tree word that is read, in the order in which the service looks for them. The first words have the faults of
+ * the later ones too, and get the first refusal. */
+static void *refused_trees(void *scratch)
+{
+    const struct scratch s = *(const struct scratch *)scratch;
+    uint8_t word[69];
+
+    memset(word, 1, 4);
+    memset(word + 4, 2, 64);
+    word[68] = 4;
+    tree_refused(s, word, 69, MELTSJUK_NO_TREE_WORD, "a tree word with a letter 4");
+    word[68] = 0;
+    tree_refused(s, word, 69, MELTSJUK_NO_TREE_WORD, "a tree word with a letter 0");
+    tree_refused(s, word, 68, MELTSJUK_LARGE_SUM, "a tree word of 2^64 + 4, which would begin with 2");
+    tree_refused(s, word + 4, 64, MELTSJUK_LARGE_SUM, "a tree word of 2^64");
+    tree_refused(s, word, 67, MELTSJUK_NO_TREE_WORD, "a tree word of 2^63 + 4 that begins with 1111");
+    tree_refused(s, word, 2, MELTSJUK_NO_TREE_WORD, "the letters 11; the words of 3 are 3 and 12");
+    return NULL;
+}
+
+/* Each refusal of a tree word that is written, likewise. The places and the length are as they were. */
+static void *refused_writings(void *unused)
+{
+    const uint16_t bad[4] = {1327, 1286, 1327, 1344}; /* 3 * 2^62, 3 * 2^61, 3 * 2^62, and no part's number */
+    const uint16_t many[65] = {0};
+    uint64_t k = 7;
+
+    set_bits(exact);
+    must(meltsjuk_write_tree(bad, 4, more_tree_places, MELTSJUK_TREE_PLACES + LATER, &k) == MELTSJUK_NO_PART,
+         "a tree word of a part number 1344");
+    must(meltsjuk_write_tree(many, 65, more_tree_places, MELTSJUK_TREE_PLACES + LATER, &k) == MELTSJUK_NO_PART,
+         "a tree word of 65 parts");
+    must(meltsjuk_write_tree(bad, 3, more_tree_places, MELTSJUK_TREE_PLACES + LATER, &k) == MELTSJUK_NO_CHAIN,
+         "a tree word of parts that are no chain");
+    must(meltsjuk_write_tree(bad, 2, more_tree_places, MELTSJUK_TREE_PLACES + LATER, &k) == MELTSJUK_LARGE_SUM,
+         "a tree word of parts with too large a sum");
+    must(meltsjuk_write_tree(bad, 0, more_tree_places, MELTSJUK_TREE_PLACES + LATER, &k) == MELTSJUK_NO_TREE_WORD,
+         "a tree word of the empty chain");
+    must(k == 7 && are_untouched(), "what is left where a tree word is not written");
+    return unused;
 }
 
 /* Each refusal of a run, in the order in which the service looks for them. Each call has the faults of the calls after it too, and
@@ -208,7 +373,8 @@ struct request {
     const char *line;
     size_t length;
     struct scratch scratch;
-    uint64_t digits, count, position, k, price, residue;
+    uint64_t digits, count, n, position, k, price, residue;
+    size_t items; /* how many part numbers or letters the line has */
     uint8_t status;
 };
 
@@ -252,7 +418,24 @@ static void *call_run(void *request)
 {
     struct request *r = request;
 
-    r->status = meltsjuk_run(numbers, (size_t)r->k, field(r->line, 1, 8), field(r->line, 9, 8), &r->residue);
+    r->status = meltsjuk_run(numbers, r->items, field(r->line, 1, 8), field(r->line, 9, 8), &r->residue);
+    return NULL;
+}
+
+static void *call_read_tree(void *request)
+{
+    struct request *r = request;
+
+    r->status = meltsjuk_read_tree(letters, r->items, r->scratch.numbers, r->scratch.length, places, MELTSJUK_PLACES, &r->n,
+                                   &r->position, &r->k);
+    return NULL;
+}
+
+static void *call_write_tree(void *request)
+{
+    struct request *r = request;
+
+    r->status = meltsjuk_write_tree(numbers, r->items, tree_places, MELTSJUK_TREE_PLACES, &r->k);
     return NULL;
 }
 
@@ -284,18 +467,61 @@ static void reply_by_best(struct request *r)
     printf("\n");
 }
 
+/* Takes the part numbers of a line; byte `at` says how many they are. */
+static void take_numbers(struct request *r, size_t at)
+{
+    r->items = (size_t)field(r->line, at, 1);
+    for (size_t i = 0; i < r->items; i++)
+        numbers[i] = (uint16_t)field(r->line, at + 1 + 2 * i, 2);
+}
+
 static void reply_by_run(struct request *r)
 {
-    r->k = field(r->line, 17, 1);
+    take_numbers(r, 17);
     r->residue = UINT64_MAX;
-    for (uint64_t i = 0; i < r->k; i++)
-        numbers[i] = (uint16_t)field(r->line, 18 + 2 * i, 2);
     on_small_stack(call_run, r);
     printf("%02X", r->status);
     if (r->status == MELTSJUK_SERVED)
         printf("%016" PRIX64, r->residue);
     else
         must(r->residue == UINT64_MAX, "a residue written although the line was refused");
+    printf("\n");
+}
+
+static void reply_by_read_tree(struct request *r)
+{
+    r->items = (size_t)field(r->line, 1, 1);
+    for (size_t i = 0; i < r->items; i++)
+        letters[i] = (uint8_t)field(r->line, 2 + i, 1);
+    r->n = r->position = r->k = UINT64_MAX;
+    with_scratch(call_read_tree, r);
+    printf("%02X", r->status);
+    if (r->status == MELTSJUK_SERVED) {
+        must(r->k <= MELTSJUK_PLACES && are_parts(places, places, (size_t)r->k, 0), "no zeros after the parts of a tree word");
+        printf("%016" PRIX64 "%016" PRIX64 "%02X", r->n, r->position, (unsigned)r->k);
+        for (uint64_t i = 0; i < r->k; i++)
+            printf("%04X", places[i]);
+    } else {
+        must((r->n & r->position & r->k) == UINT64_MAX && are_untouched(), "something written although the line was refused");
+    }
+    printf("\n");
+}
+
+static void reply_by_write_tree(struct request *r)
+{
+    take_numbers(r, 1);
+    r->k = UINT64_MAX;
+    memset(tree_places, 0xFF, MELTSJUK_TREE_PLACES);
+    on_small_stack(call_write_tree, r);
+    printf("%02X", r->status);
+    if (r->status == MELTSJUK_SERVED) {
+        must(r->k <= MELTSJUK_TREE_PLACES && are_letters(tree_places, tree_places, (size_t)r->k, 0), "no zeros after a tree word");
+        printf("%02X", (unsigned)r->k);
+        for (uint64_t i = 0; i < r->k; i++)
+            printf("%02X", tree_places[i]);
+    } else {
+        must(r->k == UINT64_MAX && is_all(tree_places, MELTSJUK_TREE_PLACES, 0xFF), "letters written although it was refused");
+    }
     printf("\n");
 }
 
@@ -307,6 +533,10 @@ static void reply_by_call(struct request *r)
         reply_by_best(r);
     else if (r->length >= 36 && r->length == 36 + 4 * field(r->line, 17, 1) && strncmp(r->line, "07", 2) == 0)
         reply_by_run(r);
+    else if (r->length >= 4 && r->length == 4 + 2 * field(r->line, 1, 1) && strncmp(r->line, "08", 2) == 0)
+        reply_by_read_tree(r);
+    else if (r->length >= 4 && r->length == 4 + 4 * field(r->line, 1, 1) && strncmp(r->line, "09", 2) == 0)
+        reply_by_write_tree(r);
     else
         must(0, "a line that no call serves");
 }
@@ -325,7 +555,9 @@ static void with_each_scratch(void)
 
     for (size_t i = 0; i < 3; i++) {
         on_small_stack(served, &each[i]);
+        on_small_stack(served_trees, &each[i]);
         on_small_stack(refused, &each[i]);
+        on_small_stack(refused_trees, &each[i]);
     }
 }
 
@@ -338,7 +570,7 @@ int main(int argc, char **argv)
     ssize_t got;
 
     make_small();
-    make_scratches();
+    make_memory();
     while ((got = getline(&line, &room, stdin)) > 0) {
         struct request r = {.line = line, .length = (size_t)got, .scratch = scratch_for(lines++)};
 
@@ -353,6 +585,7 @@ int main(int argc, char **argv)
     on_small_stack(too_little, NULL);
     with_each_scratch();
     on_small_stack(refused_runs, NULL);
+    on_small_stack(refused_writings, NULL);
     must(!ferror(stdin) && fflush(stdout) == 0, "reading or writing failed");
     return 0;
 }

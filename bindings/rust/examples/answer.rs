@@ -1,8 +1,8 @@
 //! The library from Rust, for tests/exports.
 //!
 //! Without an argument: the reply to each line of standard input, a line each, as the program `intake` writes them.
-//! With the argument `calls`: the same for lines of kinds 01, 02 and 07 of the right length, by the calls for the count, the best
-//! chain and the run of a chain, whose answers are written here as replies.
+//! With the argument `calls`: the same for lines of kinds 01, 02, 07, 08 and 09 of the right length, by the calls for the count,
+//! the best chain, the run of a chain and the two for tree words, whose answers are written here as replies.
 use meltsjuk::{Limits, Prices, Terminal};
 use std::io::{self, BufRead, Write};
 
@@ -25,16 +25,41 @@ fn reply_by_best(terminal: &mut Terminal, line: &[u8]) -> String {
     match terminal.best(n, limits, prices) {
         None => "05".to_string(),
         Some(best) => {
-            let numbers: String = best.parts.iter().map(|number| format!("{number:04X}")).collect();
-            format!("00{n:016X}{:016X}{:02X}{numbers}{:08X}", best.position, best.parts.len(), best.price)
+            format!("00{n:016X}{:016X}{:02X}{}{:08X}", best.position, best.parts.len(), digits_of(&best.parts), best.price)
         }
     }
 }
 
+fn digits_of(parts: &[u16]) -> String {
+    parts.iter().map(|number| format!("{number:04X}")).collect()
+}
+
+/// The part numbers of a line; byte `at` says how many they are.
+fn parts_in(line: &[u8], at: usize) -> Vec<u16> {
+    (0..field(line, at, 1) as usize).map(|i| field(line, at + 1 + 2 * i, 2) as u16).collect()
+}
+
 fn reply_by_run(line: &[u8]) -> String {
-    let parts: Vec<u16> = (0..field(line, 17, 1) as usize).map(|i| field(line, 18 + 2 * i, 2) as u16).collect();
-    match meltsjuk::run(&parts, field(line, 1, 8), field(line, 9, 8)) {
+    match meltsjuk::run(&parts_in(line, 17), field(line, 1, 8), field(line, 9, 8)) {
         Ok(residue) => format!("00{residue:016X}"),
+        Err(refusal) => format!("{:02X}", refusal as u8),
+    }
+}
+
+fn reply_by_read_tree(terminal: &mut Terminal, line: &[u8]) -> String {
+    let letters: Vec<u8> = (0..field(line, 1, 1) as usize).map(|i| field(line, 2 + i, 1) as u8).collect();
+    match terminal.read_tree(&letters) {
+        Ok(chain) => format!("00{:016X}{:016X}{:02X}{}", chain.n, chain.position, chain.parts.len(), digits_of(&chain.parts)),
+        Err(refusal) => format!("{:02X}", refusal as u8),
+    }
+}
+
+fn reply_by_write_tree(line: &[u8]) -> String {
+    match meltsjuk::write_tree(&parts_in(line, 1)) {
+        Ok(letters) => {
+            let digits: String = letters.iter().map(|letter| format!("{letter:02X}")).collect();
+            format!("00{:02X}{digits}", letters.len())
+        }
         Err(refusal) => format!("{:02X}", refusal as u8),
     }
 }
@@ -44,6 +69,8 @@ fn reply_by_call(terminal: &mut Terminal, line: &[u8]) -> String {
         (18, b"01") => reply_by_count(terminal, line),
         (40, b"02") => reply_by_best(terminal, line),
         (36.., b"07") if line.len() == 36 + 4 * field(line, 17, 1) as usize => reply_by_run(line),
+        (4.., b"08") if line.len() == 4 + 2 * field(line, 1, 1) as usize => reply_by_read_tree(terminal, line),
+        (4.., b"09") if line.len() == 4 + 4 * field(line, 1, 1) as usize => reply_by_write_tree(line),
         _ => panic!("a line that no call serves"),
     }
 }

@@ -1,21 +1,24 @@
 //! Double-base chains from Rust.
 //!
 //! A chain writes a number as a sum of parts 2^a × 3^b, each a proper multiple of the next: 19 = 18 + 1. A [`Terminal`] counts the
-//! chains of a number, finds its best chain, and replies to lines of hexadecimal; [`run`] runs a chain on a residue. The library
-//! behind them is proved to meet its contracts in crates/meltsjuk/src/lib.rt for every argument; this package lends it the memory
-//! that it asks for. For x86-64 Linux. A thread of Rust's usual size has stack enough; bindings/c/meltsjuk.h says how much a call
-//! needs.
+//! chains of a number, finds its best chain, reads tree words, and replies to lines of hexadecimal; [`run`] runs a chain on a
+//! residue, and [`write_tree`] writes a chain's tree word. The library behind them is proved to meet its contracts in
+//! crates/meltsjuk/src/lib.rt for every argument; this package lends it the memory that it asks for. For x86-64 Linux. A thread of
+//! Rust's usual size has stack enough; bindings/c/meltsjuk.h says how much a call needs.
 //!
 //! ```
 //! let mut terminal = meltsjuk::Terminal::new();
 //! assert_eq!(terminal.count(19), 4);
 //! assert_eq!(terminal.reply(b"010000000000000013"), "000000000000000004");
 //! assert_eq!(meltsjuk::run(&[9, 0], 101, 7), Ok(32)); // 18 + 1, run on 7 modulo 101
+//! assert_eq!(meltsjuk::write_tree(&[9, 0]), Ok(vec![1, 3, 3, 2])); // its tree word
+//! assert_eq!(terminal.read_tree(&[1, 3, 3, 2]).unwrap().parts, [9, 0]);
 //! ```
 #![warn(missing_docs)]
 
 const SCRATCH: usize = 512;
 const PLACES: usize = 64;
+const TREE_PLACES: usize = 160;
 const REPLY: usize = 514;
 
 // What the archive defines: bindings/c/meltsjuk.h says what each is lent, leaves and answers.
@@ -51,6 +54,26 @@ mod archive {
         ) -> u8;
 
         pub fn meltsjuk_run(numbers: *const u16, numbers_length: usize, m: u64, x: u64, residue: *mut u64) -> u8;
+
+        pub fn meltsjuk_read_tree(
+            letters: *const u8,
+            letters_length: usize,
+            scratch: *mut u64,
+            scratch_length: usize,
+            places: *mut u16,
+            places_length: usize,
+            n: *mut u64,
+            position: *mut u64,
+            k: *mut u64,
+        ) -> u8;
+
+        pub fn meltsjuk_write_tree(
+            numbers: *const u16,
+            numbers_length: usize,
+            places: *mut u8,
+            places_length: usize,
+            k: *mut u64,
+        ) -> u8;
     }
 }
 
@@ -98,19 +121,47 @@ pub struct Best {
     pub price: u64,
 }
 
-/// Why a chain is not run. `refusal as u8` is its number.
+/// A chain, with the number that it is a chain of and its place in that number's list.
+#[derive(Clone, Debug, PartialEq, Eq)]
+pub struct Chain {
+    /// The number: the sum of the parts.
+    pub n: u64,
+    /// The chain's position in the list of all chains of the number.
+    pub position: u64,
+    /// Its part numbers, largest part first: indices in the table of all parts below 2^64, ascending from number 0.
+    pub parts: Vec<u16>,
+}
+
+/// Why a chain is not run, or a tree word not read or written. `refusal as u8` is its number.
 #[derive(Clone, Copy, Debug, PartialEq, Eq)]
 pub enum Refusal {
     /// A part number is 1,344 or more, or there are more than 64 part numbers.
     NoPart = 8,
     /// A part is not a proper multiple of the next.
     NoChain = 9,
-    /// The parts sum to 2^64 or more.
+    /// The parts sum to 2^64 or more, or the number of a tree word is 2^64 or more.
     LargeSum = 10,
     /// The modulus is 0 or above 2^63.
     BadModulus = 13,
     /// x is not below the modulus.
     NoResidue = 14,
+    /// The letters are no tree word, or the chain is empty and has none.
+    NoTreeWord = 15,
+}
+
+impl Refusal {
+    /// The refusal with this number, which the library answered.
+    fn of(status: u8) -> Self {
+        match status {
+            8 => Refusal::NoPart,
+            9 => Refusal::NoChain,
+            10 => Refusal::LargeSum,
+            13 => Refusal::BadModulus,
+            14 => Refusal::NoResidue,
+            15 => Refusal::NoTreeWord,
+            _ => unreachable!("no other refusal is given where enough is lent"),
+        }
+    }
 }
 
 impl std::fmt::Display for Refusal {
@@ -118,9 +169,10 @@ impl std::fmt::Display for Refusal {
         f.write_str(match self {
             Refusal::NoPart => "a part number is 1344 or more, or there are more than 64 part numbers",
             Refusal::NoChain => "a part is not a proper multiple of the next",
-            Refusal::LargeSum => "the parts sum to 2^64 or more",
+            Refusal::LargeSum => "the parts sum to 2^64 or more, or the number of a tree word is 2^64 or more",
             Refusal::BadModulus => "the modulus is 0 or above 2^63",
             Refusal::NoResidue => "x is not below the modulus",
+            Refusal::NoTreeWord => "the letters are no tree word, or the chain is empty and has none",
         })
     }
 }
@@ -147,12 +199,34 @@ pub fn run(parts: &[u16], m: u64, x: u64) -> Result<u64, Refusal> {
     let status = unsafe { archive::meltsjuk_run(parts.as_ptr(), parts.len(), m, x, &mut residue) };
     match status {
         0 => Ok(residue),
-        8 => Err(Refusal::NoPart),
-        9 => Err(Refusal::NoChain),
-        10 => Err(Refusal::LargeSum),
-        13 => Err(Refusal::BadModulus),
-        14 => Err(Refusal::NoResidue),
-        _ => unreachable!("a run has no other answer"),
+        _ => Err(Refusal::of(status)),
+    }
+}
+
+/// The tree word of the chain with these part numbers, largest part first: letters 1, 2 and 3, at most 157 of them. Every chain but
+/// the empty one has exactly one tree word, and [`Terminal::read_tree`] leads back. No scratch is lent, so no [`Terminal`] is
+/// needed.
+///
+/// Refuses with [`Refusal::NoPart`], [`Refusal::NoChain`], [`Refusal::LargeSum`] and, for the empty chain, [`Refusal::NoTreeWord`].
+///
+/// ```
+/// use meltsjuk::{write_tree, Refusal};
+///
+/// assert_eq!(write_tree(&[9, 0]), Ok(vec![1, 3, 3, 2])); // 18 + 1
+/// assert_eq!(write_tree(&[8, 1, 0]), Ok(vec![1, 1, 1, 2, 2, 2, 2])); // 16 + 2 + 1
+/// assert_eq!(write_tree(&[0]), Ok(vec![])); // 1
+/// assert_eq!(write_tree(&[]), Err(Refusal::NoTreeWord));
+/// assert_eq!(write_tree(&[0, 9]), Err(Refusal::NoChain));
+/// ```
+pub fn write_tree(parts: &[u16]) -> Result<Vec<u8>, Refusal> {
+    let mut letters = [0; TREE_PLACES];
+    let mut k = 0;
+    // Sound: the part numbers and the letters are of the lengths told, and `letters` and `k` are locals.
+    let status =
+        unsafe { archive::meltsjuk_write_tree(parts.as_ptr(), parts.len(), letters.as_mut_ptr(), letters.len(), &mut k) };
+    match status {
+        0 => Ok(letters[..k as usize].to_vec()),
+        _ => Err(Refusal::of(status)),
     }
 }
 
@@ -271,6 +345,46 @@ impl Terminal {
             0 => Some(Best { parts: self.places[..k as usize].to_vec(), position, price }),
             5 => None,
             _ => panic!("a scratch of {SCRATCH} numbers and {PLACES} places are enough"),
+        }
+    }
+
+    /// The chain of a tree word: letters 1, 2 and 3, which are read from the last to the first. The chain begins as the part 1
+    /// alone. Letter 1 adds one to the sum of its powers of two, and 2 and 3 multiply every part. The empty word is that of the
+    /// chain 1.
+    ///
+    /// A letter that is not 1, 2 or 3 is refused first, with [`Refusal::NoTreeWord`]. Then a word whose number is 2^64 or more is
+    /// refused with [`Refusal::LargeSum`], and then letters that are not the word of any chain with [`Refusal::NoTreeWord`].
+    ///
+    /// ```
+    /// use meltsjuk::{Refusal, Terminal};
+    ///
+    /// let mut terminal = Terminal::new();
+    /// let chain = terminal.read_tree(&[1, 3, 3, 2]).unwrap();
+    /// assert_eq!(chain.parts, [9, 0]); // 18 + 1
+    /// assert_eq!((chain.n, chain.position), (19, 3));
+    /// assert_eq!(terminal.read_tree(&[]).unwrap().parts, [0]); // 1
+    /// assert_eq!(terminal.read_tree(&[1, 1]), Err(Refusal::NoTreeWord)); // the words of 3 are 3 and 12
+    /// assert_eq!(terminal.read_tree(&[2; 64]), Err(Refusal::LargeSum)); // 2^64
+    /// ```
+    pub fn read_tree(&mut self, letters: &[u8]) -> Result<Chain, Refusal> {
+        let (mut n, mut position, mut k) = (0, 0, 0);
+        // Sound: the letters, the scratch and the places are of the lengths told, and the three numbers are locals.
+        let status = unsafe {
+            archive::meltsjuk_read_tree(
+                letters.as_ptr(),
+                letters.len(),
+                self.scratch.as_mut_ptr(),
+                self.scratch.len(),
+                self.places.as_mut_ptr(),
+                self.places.len(),
+                &mut n,
+                &mut position,
+                &mut k,
+            )
+        };
+        match status {
+            0 => Ok(Chain { n, position, parts: self.places[..k as usize].to_vec() }),
+            _ => Err(Refusal::of(status)),
         }
     }
 }

@@ -10,6 +10,7 @@ use Prim.Native.Nat.{ℕ}
 use Rattle.digits.specs.Digits.{isWritten, every, capitals}
 use Rattle.digits.specs.CapitalLaws.{capitals-written}
 use Rattle.lines.specs.Kinds.{Kind, count-line, best-line, at-line, record-line, word-line, next-line, run-line}
+use Rattle.lines.specs.Kinds.{tree-line, to-tree-line}
 use Rattle.lines.specs.Lines.{Shape, unfit, fit, shapeOf}
 use Rattle.lines.specs.CapitalLaws.{field-of-capitals, items-of-capitals, shape-of-capitals}
 use Rattle.frames.specs.Replies.{digitsIn, limitsIn, pricesIn, served, replyByShape, replyTo, replyOf, repliedOf}
@@ -28,6 +29,8 @@ served-of-capitals record-line line = simp (items-of-capitals line)
 served-of-capitals word-line line = simp (items-of-capitals line)
 served-of-capitals next-line line = simp (items-of-capitals line)
 served-of-capitals run-line line = simp (items-of-capitals line, field-of-capitals line)
+served-of-capitals tree-line line = simp (items-of-capitals line)
+served-of-capitals to-tree-line line = simp (items-of-capitals line)
 
 -- A line and the same line with its small letters a to f as capitals get the same reply, and it has the same digits.
 pub case-blind : (line : List ℕ) → replyTo (capitals line) ≡ replyTo line

@@ -10,6 +10,7 @@
 --   BestLines    demand 3, line by line
 --   EarlierLines  lines of kind 02 with one price for an addition: refused now, and what they get with that price twice
 --   RunLines     lines of kind 07: the residue is n × x modulo m, for the chain of any reply too
+--   TreeLines    lines of kinds 08 and 09: the tree word of any chain of n, n at least 1, and back
 --   Put, Calls   what the functions inside this crate ask for and leave; PutLaws is the theory of digits put one after the other
 pub mod ReplyDigits
 pub mod ReplyDigitLaws
@@ -23,6 +24,7 @@ pub mod LineTrips
 pub mod BestLines
 pub mod EarlierLines
 pub mod RunLines
+pub mod TreeLines
 pub mod Put
 pub mod PutLaws
 pub mod Calls

@@ -1,9 +1,9 @@
 -- Demand 2, line by line: the reply to one line, made into another line, leads back.
 --
 -- In this order: lines made of values; that they are fit, and hold those values; the replies to all lines about one chain of n
--- (`chain-lines`); from the reply to any line of kinds 03 to 06 to the lines of kinds 03 and 04 about the chain that it gives
--- (`reply-leads`, `record-then-at`, `at-then-record`).
--- Kind 02 is in BestLines. The same of the services' answers is in ranking, RoundTrips.
+-- (`chain-lines`); from the reply to any line of kinds 03 to 06 and 08 to the lines of kinds 03 and 04 about the chain that it
+-- gives (`reply-leads`, `record-then-at`, `at-then-record`).
+-- Kind 02 is in BestLines; kinds 08 and 09 are in TreeLines. The same of the services' answers is in ranking, RoundTrips.
 use mathlib.Core.Path.{_≡_, refl, sym, ap, _∙_}
 use mathlib.Core.Logic.{⊎-elim}
 use mathlib.Core.Bool.{true}
@@ -31,7 +31,7 @@ use Rattle.lines.specs.LineLaws.{line-fit, kind-byte, row-small}
 use Rattle.frames.specs.ReplyDigits.{valuesDigits, positionAt, partsAt, headBytes, chainDigits}
 use Rattle.frames.specs.ReplyDigitLaws.{length-values, every-values}
 use Rattle.frames.specs.ReadBack.{Fitting, field-after, field-first, fields-after, fields-first, ChainRead}
-use Rattle.frames.specs.Replies.{refusedAs, servedWith, chainReply, served, replyRowOf, replyTo}
+use Rattle.frames.specs.Replies.{Reply, refusedAs, servedWith, chainReply, served, replyRowOf, replyTo}
 use Rattle.frames.specs.ServedLaws.{Sound, made}
 use Rattle.frames.specs.ReplyLaws.{reply-fit, served-kind, numbers-fit, position-low, reply-read}
 
@@ -144,30 +144,33 @@ module _ (k : Kind) (front mid xs : List ℕ) (f m : ℕ) (few : length xs ≤ 2
       ∙ ap (λ (l : List ℕ). fields l 0 width (length xs)) (sym (append-nil (valuesDigits width xs)))
       ∙ fields-first width xs [] fits)
 
-  items-reply : (outcome : List ℕ → Outcome) → ((line : List ℕ) → served k line ≡ chainReply (outcome (itemsIn k line)))
-      → Fitting width xs
-      → replyTo (itemsLine k front mid xs) ≡ chainReply (outcome xs)
-  items-reply outcome e fits =
+  -- Where the reply depends on the items alone, it is that to the values.
+  pub items-reply : (reply : List ℕ → Reply) → ((line : List ℕ) → served k line ≡ reply (itemsIn k line)) → Fitting width xs
+      → replyTo (itemsLine k front mid xs) ≡ reply xs
+  items-reply reply e fits =
       reply-fit (itemsLine k front mid xs) k (line-fit (itemsLine k front mid xs) k items-line-fit)
       ∙ e (itemsLine k front mid xs)
-      ∙ ap (λ (l : List ℕ). chainReply (outcome l)) (items-values fits)
+      ∙ ap reply (items-values fits)
 
 -- The replies to a record, a word, and a word for the next chain.
 pub record-reply : (l : List ℕ) → length l ≤ 127 → Fitting 2 l → replyTo (recordLine l) ≡ chainReply (ofRecord l)
 unfolding served rowOf every
 record-reply l h fits =
-    items-reply record-line [] [] l 0 0 (omega arith) refl refl refl refl (omega arith) refl refl ofRecord (λ line. refl) fits
+    items-reply record-line [] [] l 0 0 (omega arith) refl refl refl refl (omega arith) refl refl
+    (λ (x : List ℕ). chainReply (ofRecord x)) (λ line. refl) fits
 
 module _ (w : Word) (h : length w ≤ 255) (fits : Fitting 1 w) where
   pub word-reply : replyTo (wordLine w) ≡ chainReply (ofWord w)
   unfolding served rowOf every
-  word-reply = items-reply word-line [] [] w 0 0 h refl refl refl refl (omega arith) refl refl ofWord (λ line. refl) fits
+  word-reply =
+      items-reply word-line [] [] w 0 0 h refl refl refl refl (omega arith) refl refl
+      (λ (l : Word). chainReply (ofWord l)) (λ line. refl) fits
 
   pub next-reply : replyTo (nextLine w) ≡ chainReply (nextOf (ofWord w))
   unfolding served rowOf every
   next-reply =
-      items-reply next-line [] [] w 0 0 h refl refl refl refl (omega arith) refl refl (λ (l : Word). nextOf (ofWord l))
-      (λ line. refl) fits
+      items-reply next-line [] [] w 0 0 h refl refl refl refl (omega arith) refl refl
+      (λ (l : Word). chainReply (nextOf (ofWord l))) (λ line. refl) fits
 
 -- ---- all lines about one chain
 
@@ -238,7 +241,7 @@ outcome-leads rs (gives n c) s ds e =
     let same : chainDigits n (position n c) (map partNumber c) ≡ ds = cc in
     rw same at (chain-leads n c (s .0) (s .1))
 
--- So do all replies of the kinds 03, 04, 05 and 06.
+-- So do all replies of the kinds 03, 04, 05, 06 and 08.
 pub reply-leads : (line ds : List ℕ) (k : Kind) → kindOf (field line 0 1) ≡ some k → T (replyRowOf k .endsWithChain)
     → replyTo line ≡ servedWith ds → Leads ds
 reply-leads line ds k first t e =

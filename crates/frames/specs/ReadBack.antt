@@ -1,19 +1,19 @@
 -- Digits that were written, read back as the fields of a line: what a person or a program finds in a reply.
 --
--- In this order: a field after others, and the first one; values one after the other; a single number, a chain, and a chain with
--- its price.
-use mathlib.Core.Path.{_≡_, refl, ap, _∙_}
+-- In this order: a field after others, and the first one; values one after the other; a single number, a chain, a chain with its
+-- price, and letters.
+use mathlib.Core.Path.{_≡_, refl, sym, ap, _∙_}
 use mathlib.Core.List.{List, [], _∷_, _++_, append-nil, append-assoc}
 use Prim.Native.Nat.{ℕ, zero, suc, _+_, _*_, _^_, _≤_, _<_}
 use native.Mathlib.Nat.{add-zero, add-assoc, mul-add, mod-eq-of-lt}
 use native.Mathlib.Omega.{arith}
-use lib.ListN.{length, drop, getD, length-drop}
+use lib.ListN.{length, drop, getD, length-append, length-drop}
 use lib.Seq.{take-at, take-append-le, drop-append-le, drop-append-add}
 use Rattle.digits.specs.Digits.{digitsOf}
 use Rattle.digits.specs.DigitLaws.{length-digits, number-digits}
 use Rattle.lines.specs.Lines.{field, fields}
 use Rattle.frames.specs.ReplyDigits.{singleDigits, valuesDigits, numbersDigits, headDigits, positionAt, partsAt, headBytes, chainDigits}
-use Rattle.frames.specs.ReplyDigits.{pricedDigits}
+use Rattle.frames.specs.ReplyDigits.{pricedDigits, lettersDigits, lettersCountAt, lettersAt}
 use Rattle.frames.specs.ReplyDigitLaws.{length-head, length-chain}
 
 -- ---- one field
@@ -128,3 +128,24 @@ price-read n position numbers price h =
     let long : length ds ≡ 2 * at = length-chain n position numbers in
     rw (← append-nil (digitsOf 8 price), ← add-zero at)
     (field-after at 0 4 ds (digitsOf 8 price ++ []) long ∙ field-first 4 price [] (omega arith))
+
+-- What the digits of letters are read back as: 00, how many letters there are, the letters.
+pub record LettersRead (letters ds : List ℕ) : Type 0 where
+  pub zero-first : field ds 0 1 ≡ 0
+  pub count : field ds lettersCountAt 1 ≡ length letters
+  pub each : fields ds lettersAt 1 (length letters) ≡ letters
+
+pub letters-read : (letters : List ℕ) → length letters ≤ 255 → Fitting 1 letters → LettersRead letters (lettersDigits letters)
+unfolding lettersDigits
+letters-read letters few fit =
+    let a = digitsOf 2 0 in
+    let b = digitsOf 2 (length letters) in
+    let c = valuesDigits 1 letters in
+    let head : length (a ++ b) ≡ 2 * lettersAt = simp (length-append, length-digits) in
+    record {
+      zero-first = rw append-assoc (field-first 1 0 (b ++ c) (omega arith));
+      count = rw append-assoc (field-after 1 0 1 a (b ++ c) (length-digits 2 0) ∙ field-first 1 (length letters) c (omega arith));
+      each = fields-after lettersAt 0 1 (length letters) (a ++ b) c head
+          ∙ ap (λ (l : List ℕ). fields l 0 1 (length letters)) (sym (append-nil c))
+          ∙ fields-first 1 letters [] fit;
+    }

@@ -58,7 +58,7 @@ reply-refusals line r e = go (shapeOf line) refl (of-shape line)
 -- The refusals of lines in the tables of document 01 and document 02. 1 is for too little lent, and 12 for the plain count, which
 -- no line asks for.
 unfoldable pub lineRefusals : List ℕ
-lineRefusals = 2 ∷ 3 ∷ 4 ∷ 5 ∷ 6 ∷ 7 ∷ 8 ∷ 9 ∷ 10 ∷ 11 ∷ 13 ∷ 14 ∷ []
+lineRefusals = 2 ∷ 3 ∷ 4 ∷ 5 ∷ 6 ∷ 7 ∷ 8 ∷ 9 ∷ 10 ∷ 11 ∷ 13 ∷ 14 ∷ 15 ∷ []
 
 -- A number among some that all pass a test passes it.
 among-passes : (p : ℕ → Bool) (r : ℕ) (xs : List ℕ) → every p xs ≡ true → T (among r xs) → p r ≡ true
@@ -124,7 +124,7 @@ unfolding replyRowOf among passes kinds
 reply-no-digit line = Iff·trans (by-shape 3 refl line) (no-digit line)
 
 -- It gets 4 exactly if its length is proper, its characters are digits and its first byte is that of no kind. So 4 does not cover
--- 07, nor a kind that is added to `kinds`.
+-- 07 to 09, nor a kind that is added to `kinds`.
 pub reply-no-kind : (line : List ℕ)
     → (replyTo line ≡ refusedAs 4) ↔ (Proper (length line) × (allDigits line ≡ true) × (kindOf (field line 0 1) ≡ none))
 unfolding replyRowOf among passes kinds

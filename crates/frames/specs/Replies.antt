@@ -1,5 +1,5 @@
 -- The reply to a line, from the line's characters alone: document 01, 'Frames' and 'What a refused line or call gets'; document 02,
--- T-02 and T-04. It is a function of the line: neither the lines before it nor what the lent memory held has a part in it.
+-- T-02, T-04 and T-05. It is a function of the line: neither the lines before it nor what the lent memory held has a part in it.
 --
 -- In this order: replies and their digits; the replies of each kind, and what they can be; the reply to a line; what a call answers
 -- and leaves behind.
@@ -16,13 +16,15 @@ use Rattle.parts.specs.Parts.{partNumber}
 use Rattle.lent.specs.Lent.{filled}
 use Rattle.ranking.specs.Services.{Outcome, refused, gives, atPosition, ofWord, nextOf, ofRecord}
 use Rattle.best.specs.Chosen.{bestOutcome}
+use Rattle.trees.specs.Answers.{ofTree, TreeWord, noTree, treeWord, recordTree}
 use Rattle.running.specs.Ran.{ranOf}
 use Rattle.running.specs.declared.Ran.{Ran}
 use Rattle.running.specs.declared.Ran.the-variants as ran
 use Rattle.digits.specs.Digits.{digitsOf}
 use Rattle.lines.specs.Kinds.{Kind, count-line, best-line, at-line, record-line, word-line, next-line, run-line}
+use Rattle.lines.specs.Kinds.{tree-line, to-tree-line}
 use Rattle.lines.specs.Lines.{field, itemsIn, Shape, unfit, fit, shapeOf}
-use Rattle.frames.specs.ReplyDigits.{singleDigits, chainDigits, pricedDigits}
+use Rattle.frames.specs.ReplyDigits.{singleDigits, chainDigits, pricedDigits, lettersDigits}
 use Rattle.frames.specs.declared.Replied.{Replied}
 use Rattle.frames.specs.declared.Replied.the-variants as replied
 
@@ -53,6 +55,11 @@ unfoldable pub ranReply : Ran → Reply
 ranReply (ran.Refused r) = refusedAs r
 ranReply (ran.Residue x) = servedWith (singleDigits x)
 
+-- The refusal of a record, or the letters of its chain's tree word.
+unfoldable pub lettersReply : TreeWord → Reply
+lettersReply (noTree r) = refusedAs r
+lettersReply (treeWord w) = servedWith (lettersDigits w)
+
 -- ---- the replies of each kind, and what they can be
 
 -- What a line of kind 02 asks for after n: K, A, B, then d, t, s2, s3.
@@ -79,6 +86,8 @@ served record-line line = chainReply (ofRecord (itemsIn record-line line))
 served word-line line = chainReply (ofWord (itemsIn word-line line))
 served next-line line = chainReply (nextOf (ofWord (itemsIn next-line line)))
 served run-line line = ranReply (ranOf (itemsIn run-line line) (modulusIn line) (residueIn line))
+served tree-line line = chainReply (ofTree (itemsIn tree-line line))
+served to-tree-line line = lettersReply (recordTree (itemsIn to-tree-line line))
 
 -- What the reply to a fit line of a kind can be.
 pub record ReplyRow : Type 0 where
@@ -98,6 +107,8 @@ replyRowOf record-line = replyRow (8 ∷ 9 ∷ 10 ∷ []) true
 replyRowOf word-line = replyRow (7 ∷ 10 ∷ []) true
 replyRowOf next-line = replyRow (7 ∷ 10 ∷ 11 ∷ []) true
 replyRowOf run-line = replyRow (13 ∷ 14 ∷ 8 ∷ 9 ∷ 10 ∷ []) false
+replyRowOf tree-line = replyRow (15 ∷ 10 ∷ []) true
+replyRowOf to-tree-line = replyRow (8 ∷ 9 ∷ 10 ∷ 15 ∷ []) false
 
 abbrev pub refusalsOf : Kind → List ℕ
 refusalsOf k = replyRowOf k .refusals

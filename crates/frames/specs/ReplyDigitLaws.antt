@@ -1,4 +1,4 @@
--- Theory of the digits of replies: how many there are, a test that they all pass, and those of one part number more.
+-- Theory of the digits of replies: how many there are, a test that they all pass, and those of one value more.
 use mathlib.Core.Path.{_≡_, refl}
 use mathlib.Core.Bool.{Bool, true}
 use mathlib.Core.List.{List, [], _∷_, _++_, append-nil, append-assoc}
@@ -10,8 +10,8 @@ use lib.ListN.{length, getD, take, length-append}
 use lib.Seq.{take-suc}
 use Rattle.digits.specs.Digits.{every, digitsOf}
 use Rattle.digits.specs.DigitLaws.{every-append, length-digits}
-use Rattle.frames.specs.ReplyDigits.{singleDigits, valuesDigits, numbersDigits, headDigits, headBytes, chainDigits}
-use Rattle.frames.specs.ReplyDigits.{pricedDigits}
+use Rattle.frames.specs.ReplyDigits.{singleDigits, valuesDigits, headDigits, headBytes, chainDigits, pricedDigits}
+use Rattle.frames.specs.ReplyDigits.{lettersDigits, lettersAt}
 
 pub length-single : (x : ℕ) → length (singleDigits x) ≡ 18
 unfolding singleDigits
@@ -36,17 +36,22 @@ pub length-priced : (n position : ℕ) (numbers : List ℕ) (price : ℕ)
 unfolding pricedDigits
 length-priced n position numbers price = simp (length-append, length-chain, length-digits) (omega arith)
 
+pub length-letters : (letters : List ℕ) → length (lettersDigits letters) ≡ 2 * (lettersAt + length letters)
+unfolding lettersDigits
+length-letters letters = simp (length-append, length-digits, length-values) (omega arith)
+
 pub every-values : (p : ℕ → Bool) → ((k n : ℕ) → every p (digitsOf k n) ≡ true) → (width : ℕ) (xs : List ℕ)
     → every p (valuesDigits width xs) ≡ true
 unfolding valuesDigits every
 every-values p h width [] = refl
 every-values p h width (x ∷ xs) = simp (every-append, h, every-values p h width xs)
 
-numbers-snoc : (xs : List ℕ) (x : ℕ) → numbersDigits (xs ++ (x ∷ [])) ≡ numbersDigits xs ++ digitsOf 4 x
+values-snoc : (width : ℕ) (xs : List ℕ) (x : ℕ)
+    → valuesDigits width (xs ++ (x ∷ [])) ≡ valuesDigits width xs ++ digitsOf (2 * width) x
 unfolding valuesDigits
-numbers-snoc [] x = append-nil (digitsOf 4 x)
-numbers-snoc (y ∷ xs) x = rw (numbers-snoc xs x, append-assoc)
+values-snoc width [] x = append-nil (digitsOf (2 * width) x)
+values-snoc width (y ∷ xs) x = rw (values-snoc width xs x, append-assoc)
 
-pub numbers-more : (xs : List ℕ) (i : ℕ) → i < length xs
-    → numbersDigits (take (i + 1) xs) ≡ numbersDigits (take i xs) ++ digitsOf 4 (getD xs i 0)
-numbers-more xs i h = rw (add-one, take-suc xs i 0) (numbers-snoc (take i xs) (getD xs i 0))
+pub values-more : (width : ℕ) (xs : List ℕ) (i : ℕ) → i < length xs
+    → valuesDigits width (take (i + 1) xs) ≡ valuesDigits width (take i xs) ++ digitsOf (2 * width) (getD xs i 0)
+values-more width xs i h = rw (add-one, take-suc xs i 0) (values-snoc width (take i xs) (getD xs i 0))

@@ -1,4 +1,4 @@
--- The digits of replies: document 01, 'Frames'.
+-- The digits of replies: document 01, 'Frames', and document 02, T-05.
 -- Definitions only; how many digits there are is in ReplyDigitLaws.
 use mathlib.Core.List.{List, [], _∷_, _++_}
 use Prim.Native.Nat.{ℕ, _+_, _*_}
@@ -9,7 +9,7 @@ use Rattle.digits.specs.Digits.{digitsOf}
 unfoldable pub singleDigits : ℕ → List ℕ
 singleDigits x = digitsOf 2 0 ++ digitsOf 16 x
 
--- Values of `width` bytes each, one after the other; part numbers have two.
+-- Values of `width` bytes each, one after the other; part numbers have two, and letters one.
 unfoldable pub valuesDigits : ℕ → List ℕ → List ℕ
 valuesDigits width [] = []
 valuesDigits width (x ∷ xs) = digitsOf (2 * width) x ++ valuesDigits width xs
@@ -38,3 +38,14 @@ chainDigits n position numbers = headDigits n position numbers ++ numbersDigits 
 -- A chain and its price.
 unfoldable pub pricedDigits : ℕ → ℕ → List ℕ → ℕ → List ℕ
 pricedDigits n position numbers price = chainDigits n position numbers ++ digitsOf 8 price
+
+-- The letters of a tree word: 00, how many there are, then the letters.
+unfoldable pub lettersDigits : List ℕ → List ℕ
+lettersDigits letters = digitsOf 2 0 ++ digitsOf 2 (length letters) ++ valuesDigits 1 letters
+
+-- At which byte of it their number stands, and at which the first letter.
+abbrev pub lettersCountAt : ℕ
+lettersCountAt = 1
+
+abbrev pub lettersAt : ℕ
+lettersAt = lettersCountAt + 1

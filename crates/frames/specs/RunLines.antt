@@ -143,7 +143,7 @@ module _ (n : ℕ) (c : List Part) (chain : ChainOf n c) (fits : n < 2 ^ 64) (m 
 pub residue-read : (n m x : ℕ) → ResidueBy m x → field (singleDigits (n * x % m)) 1 8 ≡ n * x % m
 residue-read n m x able = single-read (n * x % m) (omega (arith, mod-lt (n * x) {m = m} (omega arith))) .1
 
--- The chain that a reply of the kinds 02 to 06 tells, run on x modulo m, gives the n of that reply times x, modulo m.
+-- The chain that a reply of the kinds 02 to 06 or 08 tells, run on x modulo m, gives the n of that reply times x, modulo m.
 pub leads-run : (ds : List ℕ) → Leads ds → (m x : ℕ) → ResidueBy m x
     → replyTo (runLine m x (fields ds headBytes 2 (field ds partsAt 1))) ≡ servedWith (singleDigits (field ds 1 8 * x % m))
 leads-run ds l m x able = rw (l .numbers) (chain-run (field ds 1 8) (l .chain) (l .sums) (number-low ds 1) m x able)

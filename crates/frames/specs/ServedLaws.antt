@@ -22,6 +22,8 @@ use Rattle.ranking.specs.Outcomes.{standing-refused, at-gives, of-gives, next-g
 use Rattle.ranking.specs.Refusals.{word-refusals, next-refusals, record-refusals}
 use Rattle.best.specs.Chosen.{orNone, bestOutcome}
 use Rattle.best.specs.Demand3.{given-is-best}
+use Rattle.trees.specs.Answers.{ofTree, TreeWord, noTree, treeWord, recordTree}
+use Rattle.trees.specs.AnswerLaws.{tree-gives, tree-refusals, record-tree, record-tree-refusals, tree-short}
 use Rattle.running.specs.Ran.{ranOf}
 use Rattle.running.specs.RanLaws.{run-refusals}
 use Rattle.running.specs.declared.Ran.{Ran}
@@ -29,12 +31,13 @@ use Rattle.running.specs.declared.Ran.the-variants as ran
 use Rattle.digits.specs.Digits.{isWritten, every, digitsOf}
 use Rattle.digits.specs.DigitLaws.{every-append, length-digits, written-digits}
 use Rattle.lines.specs.Kinds.{Kind, count-line, best-line, at-line, record-line, word-line, next-line, run-line}
+use Rattle.lines.specs.Kinds.{tree-line, to-tree-line}
 use Rattle.lines.specs.Lines.{field, itemsIn}
 use Rattle.lines.specs.LineLaws.{field-below}
-use Rattle.frames.specs.ReplyDigits.{singleDigits, headDigits, headBytes, chainDigits, pricedDigits}
-use Rattle.frames.specs.ReplyDigitLaws.{length-single, length-chain, length-priced, every-values}
-use Rattle.frames.specs.Replies.{Reply, refusedAs, servedWith, digitsIn, chainReply, pricedReply, ranReply, limitsIn, pricesIn}
-use Rattle.frames.specs.Replies.{modulusIn, residueIn, served, ReplyRow, replyRow, replyRowOf}
+use Rattle.frames.specs.ReplyDigits.{singleDigits, headDigits, headBytes, chainDigits, pricedDigits, lettersDigits, lettersAt}
+use Rattle.frames.specs.ReplyDigitLaws.{length-single, length-chain, length-priced, length-letters, every-values}
+use Rattle.frames.specs.Replies.{Reply, refusedAs, servedWith, digitsIn, chainReply, pricedReply, ranReply, lettersReply}
+use Rattle.frames.specs.Replies.{limitsIn, pricesIn, modulusIn, residueIn, served, ReplyRow, replyRow, replyRowOf}
 
 -- ---- refusals among some numbers
 
@@ -96,6 +99,11 @@ next-sound w =
     sound _ (nextOf (ofWord w)) (next-refusals w .no-other)
     (λ n c e. let d = next-gives w n c e in (d .2, of-gives w n (d .0) (d .1) .2))
 
+tree-sound : (w : List ℕ) → Sound (15 ∷ 10 ∷ []) (ofTree w)
+tree-sound w =
+    sound _ (ofTree w) (tree-refusals w .no-other)
+    (λ n c e. let g = tree-gives w n c e in (g .0, g .1))
+
 -- The best chain of n is a chain of n, and 5 the only refusal.
 module _ (n : ℕ) (lim : Limits) (π : Prices) where
   by-best : (P : Outcome → Type 0) → P (refused 5) → ((c : List Part) → P (gives n c)) → P (bestOutcome n lim (price π))
@@ -156,6 +164,13 @@ module _ (n position : ℕ) (numbers : List ℕ) (few : length numbers ≤ 64) w
       frame (headBytes + 2 * length numbers + 4) (pricedDigits n position numbers price) k (omega arith) (omega arith)
       (simp (every-append, written-digits, written-chain))
 
+letters-frame : (w : List ℕ) → length w ≤ 157 → Frame (lettersDigits w)
+unfolding lettersDigits
+letters-frame w few =
+    let k = length-letters w in
+    frame (lettersAt + length w) (lettersDigits w) k (omega arith) (omega arith)
+    (simp (every-append, written-digits, every-values isWritten written-digits))
+
 -- ---- the replies, kind by kind
 
 -- The reply x is a frame, and what the row says of it holds.
@@ -168,7 +183,7 @@ pub record Made (row : ReplyRow) (x : Reply) : Type 0 where
 pub few-numbers : (n : ℕ) (c : List Part) → ChainOf n c → n < 2 ^ 64 → length (map partNumber c) ≤ 64
 few-numbers n c h f = omega (arith, length-map c partNumber, parts-bound n 64 c h f)
 
--- Replies that do not end with a chain; a service's chain; a service's chain with its price; a run.
+-- Replies that do not end with a chain; a service's chain; a service's chain with its price; a run; the letters of a tree word.
 plain : {rs : List ℕ} (x : Reply) → Frame (digitsIn x) → ReplyIn rs x → Made (replyRow rs false) x
 plain x f h = record { framed = f; refusal = h; chain = λ t. absurd t }
 
@@ -190,6 +205,18 @@ unfolding ranReply digitsIn
 ran-made {rs} (ran.Refused r) h = plain (refusedAs r) (refusal-frame r) (one-among r rs (h r refl))
 ran-made (ran.Residue x) h = plain _ (single-frame x) tt
 
+letters-made : {rs : List ℕ} (t : TreeWord) → ((r : ℕ) → t ≡ noTree r → OneOf r rs)
+    → ((w : List ℕ) → t ≡ treeWord w → length w ≤ 157) → Made (replyRow rs false) (lettersReply t)
+unfolding lettersReply digitsIn
+letters-made {rs} (noTree r) h short = plain (refusedAs r) (refusal-frame r) (one-among r rs (h r refl))
+letters-made (treeWord w) h short = plain _ (letters-frame w (short w refl)) tt
+
+-- A record's tree word is that of a chain of a number below 2^64.
+record-tree-short : (l w : List ℕ) → recordTree l ≡ treeWord w → length w ≤ 157
+record-tree-short l w e =
+    let (n, c, chain, above, fits, numbers, word) = record-tree l w e in
+    rw word (tree-short n c above chain fits)
+
 -- The numbers that stand in a line.
 pub number-low : (line : List ℕ) (at : ℕ) → field line at 8 < 2 ^ 64
 number-low line at = omega (arith, field-below line at 8)
@@ -205,3 +232,7 @@ made next-line line = chained _ (next-sound (itemsIn next-line line))
 made run-line line =
     ran-made (ranOf (itemsIn run-line line) (modulusIn line) (residueIn line))
     (run-refusals (itemsIn run-line line) (modulusIn line) (residueIn line) .no-other)
+made tree-line line = chained _ (tree-sound (itemsIn tree-line line))
+made to-tree-line line =
+    letters-made (recordTree (itemsIn to-tree-line line)) (record-tree-refusals (itemsIn to-tree-line line) .no-other)
+    (record-tree-short (itemsIn to-tree-line line))

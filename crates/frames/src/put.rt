@@ -1,12 +1,12 @@
-// The digits of a reply, written one after the other into the bytes that are lent for it: document 01, 'Frames'. At least 514 bytes
-// are lent, and every reply fits into them (`reply-short`).
+// The digits of a reply, written one after the other into the bytes that are lent for it: document 01, 'Frames', and document 02,
+// T-05. At least 514 bytes are lent, and every reply fits into them (`reply-short`).
 ghost use mathlib.Core.Path.{_≡_};
 ghost use Prim.Native.Nat.{_+_, _-_, _*_, _≤_};
 ghost use lib.ListN.{length};
 ghost use Rattle.digits.specs.Digits.{digitsOf};
 ghost use Rattle.lent.specs.Lent.{zeros};
 ghost use Rattle.frames.specs.Put.{putAt};
-ghost use Rattle.frames.specs.ReplyDigits.{singleDigits, headDigits, numbersDigits, chainDigits};
+ghost use Rattle.frames.specs.ReplyDigits.{singleDigits, valuesDigits, headDigits, numbersDigits, chainDigits, lettersDigits};
 
 // The last k digits of n, after the first `at` bytes. Where the next digits go is told, here and below.
 fn put_at(out: &mut [u8], at: usize, k: usize, n: u64) -> usize
@@ -81,6 +81,32 @@ pub fn put_price(out: &mut [u8], at: usize, price: u64) -> usize
     ensures { λ _. ⌜ now (out .exit) ≡ putAt at (digitsOf 8 price) (now (out .entry)) ⌝ }
 {
     put_at(out, at, 8, price)
+}
+
+// Letters, one byte each, after the first `at` bytes.
+fn put_bytes(out: &mut [u8], at: usize, letters: &[u8]) -> usize
+    requires { ⌜ at + 2 * length (now letters) ≤ length (now out) ⌝ }
+    ensures { λ k. ⌜ k ≡ at + length (valuesDigits 1 (now (letters .entry))) ⌝ }
+    ensures { λ _. ⌜ now (out .exit) ≡ putAt at (valuesDigits 1 (now (letters .entry))) (now (out .entry)) ⌝ }
+{
+    let mut end = at;
+    let mut i = 0;
+    while i < letters.len() {
+        end = put_at(out, end, 2, letters[i] as u64);
+        i += 1;
+    }
+    end
+}
+
+// The letters of a tree word: 00, how many there are, then the letters.
+pub fn put_letters(out: &mut [u8], letters: &[u8]) -> usize
+    requires { ⌜ (514 ≤ length (now out)) × (length (now letters) ≤ 255) ⌝ }
+    ensures { λ k. ⌜ k ≡ length (lettersDigits (now (letters .entry))) ⌝ }
+    ensures { λ _. ⌜ now (out .exit) ≡ putAt 0 (lettersDigits (now (letters .entry))) (now (out .entry)) ⌝ }
+{
+    let after_zero = put_at(out, 0, 2, 0);
+    let at = put_at(out, after_zero, 2, letters.len() as u64);
+    put_bytes(out, at, letters)
 }
 
 // Zeros from `at` up to 514.

@@ -8,6 +8,7 @@ use counting::Counted;
 use lines::Items;
 use ranking::Placed;
 use running::Ran;
+use words::Written;
 ghost use mathlib.Core.Path.{_≡_};
 ghost use Prim.Native.Nat.{_≤_};
 ghost use lib.ListN.{length};
@@ -15,10 +16,12 @@ ghost use Rattle.chains.specs.Best.{price};
 ghost use Rattle.lent.specs.Lent.{tooLittle, Enough, scratchLeft};
 ghost use Rattle.ranking.specs.Services.{lent, placesLeft};
 ghost use Rattle.best.specs.Chosen.{limitsOf, pricesOf, bestOutcome, chosenOf};
+ghost use Rattle.trees.specs.Answers.{recordTree, lentTree, treeTold, treeLeft};
 ghost use Rattle.running.specs.Ran.{ranOf};
 ghost use Rattle.frames.specs.Calls.{Told, Handled, FitAs, readOnly};
 ghost use Rattle.frames.specs.Replies.{refusedAs, limitsIn, pricesIn, modulusIn, residueIn, served, replyTo};
 ghost use Rattle.lines.specs.Kinds.{count-line, best-line, at-line, record-line, word-line, next-line, run-line};
+ghost use Rattle.lines.specs.Kinds.{tree-line, to-tree-line};
 ghost use Rattle.lines.specs.Lines.{Fit, itemsIn, readItems, itemsLeft};
 
 // A line that is refused: the scratch is zeroed as on success.
@@ -217,6 +220,58 @@ pub fn serve_run(line: &[u8], scratch: &mut [u64], out: &mut [u8]) -> Replied
     replied
 }
 
+// 08: a tree word.
+pub fn serve_tree(line: &[u8], scratch: &mut [u64], out: &mut [u8]) -> Replied
+    requires { ⌜ Enough 514 (now scratch) (now out) × Fit (now line) tree-line ⌝ }
+    ensures { λ r. ⌜ Handled (served tree-line (now (line .entry))) r
+        (now (scratch .entry)) (now (scratch .exit)) (now (out .entry)) (now (out .exit)) ⌝ }
+{
+    let mut letters = [0u8; 255];
+    let k = letters_in(line, &mut letters);
+    let mut places = [0u16; 64];
+    let found = trees::read_tree(&letters[0..k], scratch, &mut places);
+    tell::tell_found(out, found, &places)
+}
+
+// The tree word of the record in a line of kind 09, its letters in the places.
+fn tree_in(line: &[u8], places: &mut [u8]) -> Written
+    requires { ⌜ Fit (now line) to-tree-line ⌝ }
+    ensures { λ r. ⌜ r ≡ treeTold (lentTree (now (places .entry)) (recordTree (itemsIn to-tree-line (now (line .entry))))) ⌝ }
+    ensures { λ _. ⌜ now (places .exit)
+        ≡ treeLeft (lentTree (now (places .entry)) (recordTree (itemsIn to-tree-line (now (line .entry)))))
+        (now (places .entry)) ⌝ }
+{
+    let mut numbers = [0u16; 255];
+    let k = numbers_in(line, &mut numbers);
+    trees::write_tree(&numbers[0..k], places)
+}
+
+// Its letters or refusal.
+fn tell_tree(line: &[u8], out: &mut [u8]) -> Replied
+    requires { ⌜ (514 ≤ length (now out)) × Fit (now line) to-tree-line ⌝ }
+    ensures { λ r. ⌜ Told (served to-tree-line (now (line .entry))) r (now (out .entry)) (now (out .exit)) ⌝ }
+{
+    let mut places = [0u8; 160];
+    match tree_in(line, &mut places) {
+        Written::Letters(k) => {
+            let end = k as usize;
+            tell::tell_letters(out, &places[0..end])
+        }
+        Written::Refused(number) => tell::tell_refusal(out, number),
+    }
+}
+
+// 09: the tree word of a record's chain. The service is lent no scratch, so the scratch is zeroed here.
+pub fn serve_to_tree(line: &[u8], scratch: &mut [u64], out: &mut [u8]) -> Replied
+    requires { ⌜ Enough 514 (now scratch) (now out) × Fit (now line) to-tree-line ⌝ }
+    ensures { λ r. ⌜ Handled (served to-tree-line (now (line .entry))) r
+        (now (scratch .entry)) (now (scratch .exit)) (now (out .entry)) (now (out .exit)) ⌝ }
+{
+    let replied = tell_tree(line, out);
+    lent::clear_scratch(scratch);
+    replied
+}
+
 // A fit line, by the byte of its kind.
 pub fn serve_kind(kind: u8, line: &[u8], scratch: &mut [u64], out: &mut [u8]) -> Replied
     requires { ⌜ Enough 514 (now scratch) (now out) × FitAs kind (now line) ⌝ }
@@ -231,6 +286,8 @@ pub fn serve_kind(kind: u8, line: &[u8], scratch: &mut [u64], out: &mut [u8]) ->
         5 => serve_word(line, scratch, out),
         6 => serve_next(line, scratch, out),
         7 => serve_run(line, scratch, out),
+        8 => serve_tree(line, scratch, out),
+        9 => serve_to_tree(line, scratch, out),
         // No other byte is that of a kind.
         _ => serve_refusal(4, scratch, out),
     }

@@ -5,7 +5,7 @@ use ranking::Found;
 ghost use Prim.Native.Nat.{_≤_};
 ghost use lib.ListN.{length};
 ghost use Rattle.frames.specs.Replies.{refusedAs, servedWith};
-ghost use Rattle.frames.specs.ReplyDigits.{singleDigits, chainDigits, pricedDigits};
+ghost use Rattle.frames.specs.ReplyDigits.{singleDigits, chainDigits, pricedDigits, lettersDigits};
 ghost use Rattle.frames.specs.Calls.{Told, partsIn, foundReply};
 
 // A refused line.
@@ -48,6 +48,16 @@ pub fn tell_priced(out: &mut [u8], n: u64, position: u64, numbers: &[u16], price
     let end = put::put_price(out, k, price);
     put::fill(out, end);
     Replied::Digits(end as u64)
+}
+
+// The letters of a tree word.
+pub fn tell_letters(out: &mut [u8], letters: &[u8]) -> Replied
+    requires { ⌜ (514 ≤ length (now out)) × (length (now letters) ≤ 255) ⌝ }
+    ensures { λ r. ⌜ Told (servedWith (lettersDigits (now (letters .entry)))) r (now (out .entry)) (now (out .exit)) ⌝ }
+{
+    let k = put::put_letters(out, letters);
+    put::fill(out, k);
+    Replied::Digits(k as u64)
 }
 
 // What a service found, its part numbers in the places.

@@ -1,5 +1,5 @@
--- The kinds of lines and how a line of each is laid out: document 01, 'Frames', and document 02, T-02 and T-04. Nothing else says
--- which kinds there are.
+-- The kinds of lines and how a line of each is laid out: document 01, 'Frames', and document 02, T-02, T-04 and T-05. Nothing else
+-- says which kinds there are.
 -- Definitions only.
 use mathlib.Core.Bool.{true, false}
 use mathlib.Core.List.{List, [], _∷_}
@@ -7,9 +7,10 @@ use mathlib.Core.Option.{Option, none, some}
 use Prim.Native.Nat.{ℕ}
 use lib.Dec.{eqb}
 
--- A count, the best chain, the chain at a position, a burned record, a word, the chain next to a word's, a chain to run.
+-- A count, the best chain, the chain at a position, a burned record, a word, the chain next to a word's, a chain to run, a tree
+-- word, a record whose tree word is asked for.
 pub data Kind : Type 0 where
-  count-line best-line at-line record-line word-line next-line run-line : Kind
+  count-line best-line at-line record-line word-line next-line run-line tree-line to-tree-line : Kind
 
 -- How a line of a kind is laid out. Items are a record's part numbers or a word's letters. In a kind without items all bytes stand
 -- before them, and their width is 0.
@@ -34,9 +35,12 @@ rowOf record-line = row 4 2 1 2
 rowOf word-line = row 5 2 1 1
 rowOf next-line = row 6 2 1 1
 rowOf run-line = row 7 18 17 2
+rowOf tree-line = row 8 2 1 1
+rowOf to-tree-line = row 9 2 1 2
 
 unfoldable pub kinds : List Kind
-kinds = count-line ∷ best-line ∷ at-line ∷ record-line ∷ word-line ∷ next-line ∷ run-line ∷ []
+kinds =
+    count-line ∷ best-line ∷ at-line ∷ record-line ∷ word-line ∷ next-line ∷ run-line ∷ tree-line ∷ to-tree-line ∷ []
 
 -- The first of some kinds that has a byte.
 unfoldable pub kindAmong : List Kind → ℕ → Option Kind

@@ -18,7 +18,7 @@ use Rattle.lent.specs.LentLaws.{neither}
 use Rattle.digits.specs.Digits.{valueOr0, allDigits, numberOf, readFrom}
 use Rattle.digits.specs.DigitLaws.{number-append, number-below, number-fits}
 use Rattle.lines.specs.Kinds.{Kind, count-line, best-line, at-line, record-line, word-line, next-line, run-line}
-use Rattle.lines.specs.Kinds.{Row, rowOf, kinds, kindAmong, kindOf}
+use Rattle.lines.specs.Kinds.{tree-line, to-tree-line, Row, rowOf, kinds, kindAmong, kindOf}
 use Rattle.lines.specs.Lines.{field, fields, bytesIn, itemsIn, Shape, unfit, fit, badLength, Proper, shapeOfKind, shapeOf}
 use Rattle.lines.specs.Lines.{shapeCode}
 use Rattle.lines.specs.Lines.{Fit, unread, read, itemsOfKind, readItems}
@@ -108,6 +108,8 @@ kind-byte record-line = refl
 kind-byte word-line = refl
 kind-byte next-line = refl
 kind-byte run-line = refl
+kind-byte tree-line = refl
+kind-byte to-tree-line = refl
 
 -- A test passes for each of some kinds.
 unfoldable pub passes : (Kind → Bool) → List Kind → Bool

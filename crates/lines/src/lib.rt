@@ -91,6 +91,8 @@ fn row_of(kind: u8) -> Row
         5 => row_with(2, 1, 1),
         6 => row_with(2, 1, 1),
         7 => row_with(18, 17, 2),
+        8 => row_with(2, 1, 1),
+        9 => row_with(2, 1, 2),
         _ => row_with(0, 0, 0),
     }
 }

@@ -1,17 +1,20 @@
 -- What the functions for C and Rust answer: a service's answer, case by case, as a number and as numbers put where the caller asks.
 -- A refusal leaves those as they were. Document 01, 'What a refused line or call gets', and document 02 have the refusals' numbers;
--- of the count, the best chain and the run 0 says that the call was served.
+-- of all but the reply 0 says that the call was served.
 --
--- In this order: the reply to a line, the count, the best chain, the run of a chain. Definitions only.
+-- In this order: the reply to a line, the count, a chain that is found, the best chain, tree words, the run of a chain. Definitions
+-- only.
 use mathlib.Core.Bool.{Bool, true, false}
 use mathlib.Core.List.{List}
 use Prim.Native.Nat.{ℕ}
 use lib.ListN.{length}
+use Rattle.chains.specs.Words.{Word}
 use Rattle.chains.specs.Listing.{position}
 use Rattle.chains.specs.Best.{Prices, Limits, price}
 use Rattle.ranking.specs.Services.{Outcome, refused, gives, lent}
 use Rattle.counting.specs.declared.Counted.{Counted}
 use Rattle.counting.specs.declared.Counted.the-variants.{Count, Refused}
+use Rattle.trees.specs.Answers.{ofTree, TreeWord, noTree, treeWord, recordTree, lentTree}
 use Rattle.running.specs.declared.Ran.{Ran}
 use Rattle.running.specs.declared.Ran.the-variants as ran
 use Rattle.best.specs.Chosen.{bestOutcome}
@@ -36,6 +39,25 @@ unfoldable pub countOr : Counted → ℕ → ℕ
 countOr (Count m) x = m
 countOr (Refused r) x = x
 
+-- ---- a chain that is found
+
+unfoldable pub outcomeStatus : Outcome → ℕ
+outcomeStatus (refused r) = r
+outcomeStatus (gives n c) = 0
+
+-- The number n that the chain sums to, its position in the list of n and its number of parts, or x where it is refused.
+unfoldable pub numberOr : Outcome → ℕ → ℕ
+numberOr (refused r) x = x
+numberOr (gives n c) x = n
+
+unfoldable pub positionOr : Outcome → ℕ → ℕ
+positionOr (refused r) x = x
+positionOr (gives n c) x = position n c
+
+unfoldable pub partsOr : Outcome → ℕ → ℕ
+partsOr (refused r) x = x
+partsOr (gives n c) x = length c
+
 -- ---- the best chain
 
 -- What is asked with: C hands the limits and the prices over as numbers.
@@ -49,22 +71,29 @@ pricesOf d t s2 s3 = record { d = d; t = t; s2 = s2; s3 = s3 }
 abbrev pub bestAsked : List ℕ → List ℕ → ℕ → Limits → Prices → Outcome
 bestAsked scratch places n lim π = lent scratch places (bestOutcome n lim (price π))
 
-unfoldable pub bestStatus : Outcome → ℕ
-bestStatus (refused r) = r
-bestStatus (gives n c) = 0
-
--- The chain's position in the list of n, its number of parts and its price, or x where it is refused.
-unfoldable pub positionOr : Outcome → ℕ → ℕ
-positionOr (refused r) x = x
-positionOr (gives n c) x = position n c
-
-unfoldable pub partsOr : Outcome → ℕ → ℕ
-partsOr (refused r) x = x
-partsOr (gives n c) x = length c
-
+-- Its price, or x where it is refused.
 unfoldable pub priceOr : Prices → Outcome → ℕ → ℕ
 priceOr π (refused r) x = x
 priceOr π (gives n c) x = price π c
+
+-- ---- tree words
+
+-- What is asked for: the chain of a tree word, or the tree word of a record's chain; and refusal 1 first, where too little is
+-- lent.
+abbrev pub chainAsked : List ℕ → List ℕ → Word → Outcome
+chainAsked scratch places letters = lent scratch places (ofTree letters)
+
+abbrev pub treeAsked : List ℕ → List ℕ → TreeWord
+treeAsked places numbers = lentTree places (recordTree numbers)
+
+unfoldable pub treeStatus : TreeWord → ℕ
+treeStatus (noTree r) = r
+treeStatus (treeWord w) = 0
+
+-- How many letters the tree word has, or x where it is refused.
+unfoldable pub lettersOr : TreeWord → ℕ → ℕ
+lettersOr (noTree r) x = x
+lettersOr (treeWord w) x = length w
 
 -- ---- the run of a chain
 

@@ -1,4 +1,4 @@
--- The services for C and Rust: the number that each function answers, and what it puts where the caller asks (Answers); that 1 is
--- no length of a reply (AnswerLaws).
+-- The services for C and Rust: the number that each function answers, and what it puts where the caller asks (Answers); what its
+-- number says (AnswerLaws).
 pub mod Answers
 pub mod AnswerLaws

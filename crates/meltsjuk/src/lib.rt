@@ -6,15 +6,20 @@ use best::Limits;
 use best::Prices;
 use counting::Counted;
 use frames::Replied;
+use ranking::Found;
 use running::Ran;
+use words::Written;
 ghost use mathlib.Core.Path.{_≡_};
 ghost use Rattle.lent.specs.Lent.{tooLittle, scratchLeft, littleScratch};
 ghost use Rattle.ranking.specs.Services.{placesLeft};
 ghost use Rattle.counting.specs.TableCount.{countedOf};
 ghost use Rattle.frames.specs.Replies.{outLeft};
+ghost use Rattle.trees.specs.Answers.{treeLeft};
 ghost use Rattle.running.specs.Ran.{ranOf};
 ghost use Rattle.meltsjuk.specs.Answers.{digitsOrRefusal, countStatus, countOr};
-ghost use Rattle.meltsjuk.specs.Answers.{limitsOf, pricesOf, bestAsked, bestStatus, positionOr, partsOr, priceOr};
+ghost use Rattle.meltsjuk.specs.Answers.{outcomeStatus, numberOr, positionOr, partsOr};
+ghost use Rattle.meltsjuk.specs.Answers.{limitsOf, pricesOf, bestAsked, priceOr};
+ghost use Rattle.meltsjuk.specs.Answers.{chainAsked, treeAsked, treeStatus, lettersOr};
 ghost use Rattle.meltsjuk.specs.Answers.{runStatus, residueOr};
 
 // Replying to one line, without its byte 10, as `frames::reply` does. Answers how many digits the reply in `out` has, two where the
@@ -69,7 +74,7 @@ pub extern "C" fn meltsjuk_best(
     price: &mut u64,
 ) -> u8
     ensures answer { λ r. ⌜ r
-        ≡ bestStatus
+        ≡ outcomeStatus
         (bestAsked (now (scratch .entry)) (now (places .entry)) n (limitsOf «parts_limit» «a_limit» «b_limit») (pricesOf d t s2 s3)) ⌝ }
     ensures position { λ _. ⌜ now (position .exit)
         ≡ positionOr
@@ -129,5 +134,62 @@ pub extern "C" fn meltsjuk_run(numbers: &[u16], m: u64, x: u64, residue: &mut u6
             0
         }
         Ran::Refused(number) => number,
+    }
+}
+
+// The chain of the tree word `letters`, as `trees::read_tree` finds it, its part numbers in the places. Answers 0 with the number
+// that its parts sum to, its position and the number of its parts put in `n`, `position` and `k`, or 1, 15 or 10, and the three are
+// as they were.
+#[no_mangle]
+pub extern "C" fn meltsjuk_read_tree(
+    letters: &[u8],
+    scratch: &mut [u64],
+    places: &mut [u16],
+    n: &mut u64,
+    position: &mut u64,
+    k: &mut u64,
+) -> u8
+    ensures answer { λ r. ⌜ r ≡ outcomeStatus (chainAsked (now (scratch .entry)) (now (places .entry)) (now (letters .entry))) ⌝ }
+    ensures n { λ _. ⌜ now (n .exit)
+        ≡ numberOr (chainAsked (now (scratch .entry)) (now (places .entry)) (now (letters .entry))) (now (n .entry)) ⌝ }
+    ensures position { λ _. ⌜ now (position .exit)
+        ≡ positionOr (chainAsked (now (scratch .entry)) (now (places .entry)) (now (letters .entry))) (now (position .entry)) ⌝ }
+    ensures k { λ _. ⌜ now (k .exit)
+        ≡ partsOr (chainAsked (now (scratch .entry)) (now (places .entry)) (now (letters .entry))) (now (k .entry)) ⌝ }
+    ensures places { λ _. ⌜ now (places .exit)
+        ≡ placesLeft (chainAsked (now (scratch .entry)) (now (places .entry)) (now (letters .entry))) (now (places .entry)) ⌝ }
+    ensures scratch { λ _. ⌜ now (scratch .exit)
+        ≡ scratchLeft (tooLittle 64 (now (scratch .entry)) (now (places .entry))) (now (scratch .entry)) ⌝ }
+{
+    match trees::read_tree(letters, scratch, places) {
+        Found::Chain {
+            n: sum,
+            position: index,
+            k: parts,
+        } => {
+            *n = sum;
+            *position = index;
+            *k = parts;
+            0
+        }
+        Found::Refused(number) => number,
+    }
+}
+
+// The tree word of the chain whose part numbers are `numbers`, largest part first, as `trees::write_tree` writes it, its letters in
+// the places. Answers 0 with the number of letters put in `k`, or 1, 8, 9, 10 or 15, and `k` is as it was.
+#[no_mangle]
+pub extern "C" fn meltsjuk_write_tree(numbers: &[u16], places: &mut [u8], k: &mut u64) -> u8
+    ensures answer { λ r. ⌜ r ≡ treeStatus (treeAsked (now (places .entry)) (now (numbers .entry))) ⌝ }
+    ensures k { λ _. ⌜ now (k .exit) ≡ lettersOr (treeAsked (now (places .entry)) (now (numbers .entry))) (now (k .entry)) ⌝ }
+    ensures places { λ _. ⌜ now (places .exit)
+        ≡ treeLeft (treeAsked (now (places .entry)) (now (numbers .entry))) (now (places .entry)) ⌝ }
+{
+    match trees::write_tree(numbers, places) {
+        Written::Letters(letters) => {
+            *k = letters;
+            0
+        }
+        Written::Refused(number) => number,
     }
 }

@@ -179,11 +179,11 @@ record-given l n = Iff·trans (as-judged (judgedOf l)) (judged-sum l n)
 -- ---- too little is lent
 
 -- The scratch has fewer numbers than it must have, or there are fewer than 64 places.
-abbrev Little : List ℕ → List ℕ → Type 0
+abbrev pub Little : List ℕ → List ℕ → Type 0
 Little s p = (length s < scratchSize) ⊎ (length p < 64)
 
 -- Where the outcome itself is not refused with 1: a service with places, and one that is lent a scratch alone.
-found-too-little : (s p : List ℕ) (o : Outcome) → ¬ (o ≡ refused 1) → (answerOf (lent s p o) ≡ found.Refused 1) ↔ Little s p
+pub found-too-little : (s p : List ℕ) (o : Outcome) → ¬ (o ≡ refused 1) → (answerOf (lent s p o) ≡ found.Refused 1) ↔ Little s p
 unfolding answerOf lent
 found-too-little s p o n = by-sizes (decLt (length s) scratchSize) (decLt (length p) 64)
   where

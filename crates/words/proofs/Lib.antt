@@ -1,5 +1,5 @@
 -- What the proofs of several functions use.
-mod Sized
+pub mod Sized
 mod Powers
 mod Back
 mod Between

@@ -25,7 +25,7 @@ use Rattle.words.specs.declared.Written.the-variants as written
 use Rattle.words.specs.declared.Parted.the-variants as parted
 
 -- What a test for "below" says where it fails.
-not-below : (n k : ℕ) → (¬ T (ltb n k)) ↔ (k ≤ n)
+pub not-below : (n k : ℕ) → (¬ T (ltb n k)) ↔ (k ≤ n)
 not-below n k = (λ h. at-least (λ l. h (lt→ltb n k l)), λ l t. omega (arith, ltb→lt n k t))
   where
     at-least : ¬ (n < k) → k ≤ n

@@ -4,7 +4,7 @@ use mathlib.Core.Option.{none, some}
 use Prim.Native.Nat.{ℕ}
 use borrow.Author.Needs.{needs}
 use Rattle.lines.specs.Kinds.{Kind, count-line, best-line, at-line, record-line, word-line, next-line}
-use Rattle.lines.specs.Kinds.{run-line, rowOf, kinds, kindOf}
+use Rattle.lines.specs.Kinds.{run-line, tree-line, to-tree-line, rowOf, kinds, kindOf}
 use Rattle.lines.specs.LineLaws.{kind-byte, Left, none-left}
 use Rattle.lines.specs.Calls.{rowFor}
 use Rattle.lines.specs.declared.Row.{Row as RowAnswer}
@@ -31,6 +31,8 @@ row-of-spec =
     (λ c κs. search needs)
     (λ c κs. search needs)
     (λ c κs. search needs)
+    (λ c κs. search needs)
+    (λ c κs. search needs)
     (λ c. search (needs, at-kind count-line))
     (λ c. search (needs, at-kind best-line))
     (λ c. search (needs, at-kind at-line))
@@ -38,4 +40,6 @@ row-of-spec =
     (λ c. search (needs, at-kind word-line))
     (λ c. search (needs, at-kind next-line))
     (λ c. search (needs, at-kind run-line))
+    (λ c. search (needs, at-kind tree-line))
+    (λ c. search (needs, at-kind to-tree-line))
     (λ c. search (needs, at-none)))

@@ -7,23 +7,23 @@ use Rattle.chains.specs.Best.{Prices, price}
 use Rattle.ranking.specs.Services.{Outcome, refused, gives}
 use Rattle.best.specs.Chosen.{chosenOf}
 use Rattle.best.specs.declared.Chosen.the-variants as chosen
-use Rattle.meltsjuk.specs.Answers.{bestStatus, positionOr, partsOr, priceOr}
+use Rattle.meltsjuk.specs.Answers.{outcomeStatus, positionOr, partsOr, priceOr}
 use Rattle.meltsjuk.proofs.meltsjuk_best.Statement.{statement}
 use Rattle.meltsjuk.proofs.meltsjuk_best.Tie as tie
 
 -- x, y and z stood where the position, the number of parts and the price are asked for.
 module _ (π : Prices) (x y z : ℕ) where
   as-chain : (o : Outcome) (i k cost : ℕ) → chosen.Chain i k cost ≡ chosenOf (price π) o
-      → (0 ≡ bestStatus o) × (i ≡ positionOr o x) × (k ≡ partsOr o y) × (cost ≡ priceOr π o z)
-  unfolding chosenOf bestStatus positionOr partsOr priceOr
+      → (0 ≡ outcomeStatus o) × (i ≡ positionOr o x) × (k ≡ partsOr o y) × (cost ≡ priceOr π o z)
+  unfolding chosenOf outcomeStatus positionOr partsOr priceOr
   as-chain (refused r) i k cost e =
       let f : _≡_ {A = ℕ} 0 1 = cc in
       absurd (omega arith)
   as-chain (gives n c) i k cost e = (refl, cc, cc, cc)
 
   as-refusal : (o : Outcome) (r : ℕ) → chosen.Refused r ≡ chosenOf (price π) o
-      → (r ≡ bestStatus o) × (x ≡ positionOr o x) × (y ≡ partsOr o y) × (z ≡ priceOr π o z)
-  unfolding chosenOf bestStatus positionOr partsOr priceOr
+      → (r ≡ outcomeStatus o) × (x ≡ positionOr o x) × (y ≡ partsOr o y) × (z ≡ priceOr π o z)
+  unfolding chosenOf outcomeStatus positionOr partsOr priceOr
   as-refusal (refused q) r e = (cc, refl, refl, refl)
   as-refusal (gives n c) r e =
       let f : _≡_ {A = ℕ} 0 1 = cc in

@@ -4,7 +4,7 @@ use mathlib.Core.List.{List}
 use Prim.Native.Nat.{ℕ}
 use borrow.Author.Needs.{needs}
 use Rattle.lines.specs.Kinds.{Kind, count-line, best-line, at-line, record-line, word-line, next-line, run-line}
-use Rattle.lines.specs.Kinds.{rowOf, kinds}
+use Rattle.lines.specs.Kinds.{tree-line, to-tree-line, rowOf, kinds}
 use Rattle.lines.specs.Lines.{fit, shapeOf, Fit}
 use Rattle.lines.specs.LineLaws.{fit-line, kind-byte, kind-shape, Left, none-left-fit}
 use Rattle.frames.specs.Replies.{replyTo, served}
@@ -40,6 +40,8 @@ serve-kind-spec =
     (λ c κs. search (needs, fits word-line))
     (λ c κs. search (needs, fits next-line))
     (λ c κs. search (needs, fits run-line))
+    (λ c κs. search (needs, fits tree-line))
+    (λ c κs. search (needs, fits to-tree-line))
     (λ c κs. search needs)
     (λ c. search needs)
     (λ c. search needs)
@@ -62,6 +64,12 @@ serve-kind-spec =
     (λ c. search needs)
     (λ c. search needs)
     (λ c. search (needs, handled run-line))
+    (λ c. search needs)
+    (λ c. search needs)
+    (λ c. search (needs, handled tree-line))
+    (λ c. search needs)
+    (λ c. search needs)
+    (λ c. search (needs, handled to-tree-line))
     (λ c. search needs)
     (λ c. search needs)
     (λ c. search (needs, no-other)))

@@ -1,0 +1,266 @@
+-- Lines of kinds 08 and 09 (document 02, T-05). A fit line of kind 08 is served exactly if its letters are the tree word of a chain
+-- of n, n at least 1 and below 2^64. A fit line of kind 09 is served exactly if its part numbers are those of such a chain.
+--
+-- In this order: served and refused (`tree-served`, `tree-refused`, `to-tree-served`, `to-tree-refused`); lines made of values;
+-- every chain of n (`chain-to-tree`, `tree-to-chain`), also the chain that another line's reply tells (`leads-trees`); from the
+-- reply to any line of one of the two kinds to a line of the other and back (`tree-then-to-tree`, `to-tree-then-tree`).
+use mathlib.Core.Path.{_≡_, refl, sym, ap, _∙_}
+use mathlib.Core.Logic.{_↔_, Iff·trans}
+use mathlib.Core.List.{List, [], map, append-nil}
+use mathlib.Core.Option.{some}
+use Prim.Native.Nat.{ℕ, _^_, _≤_, _<_}
+use native.Mathlib.Omega.{arith}
+use lib.ListN.{length}
+use Rattle.chains.specs.Chains.{Part, ChainOf}
+use Rattle.chains.specs.Words.{Word}
+use Rattle.chains.specs.Listing.{position}
+use Rattle.parts.specs.Parts.{partNumber}
+use Rattle.ranking.specs.Services.{Outcome, refused, gives}
+use Rattle.trees.specs.Paths.{treeOf}
+use Rattle.trees.specs.Answers.{ofTree, TreeWord, noTree, treeWord, recordTree}
+use Rattle.trees.specs.AnswerLaws.{tree-gives, TreeRefusals, tree-lifted, tree-refusals, record-tree, RecordTreeRefusals}
+use Rattle.trees.specs.AnswerLaws.{record-tree-lifted, record-tree-refusals, chain-tree-written, chain-tree-read}
+use Rattle.trees.specs.AnswerLaws.{tree-short, tree-low}
+use Rattle.digits.specs.Digits.{every}
+use Rattle.lines.specs.Kinds.{tree-line, to-tree-line, rowOf, kindOf}
+use Rattle.lines.specs.Lines.{field, fields, itemsIn, fit, shapeOf}
+use Rattle.frames.specs.ReplyDigits.{partsAt, headBytes, chainDigits, lettersDigits, lettersCountAt, lettersAt}
+use Rattle.frames.specs.ReadBack.{Fitting, ChainRead, letters-read}
+use Rattle.frames.specs.Replies.{refusedAs, servedWith, chainReply, lettersReply, served, replyTo}
+use Rattle.frames.specs.ServedLaws.{few-numbers, number-low}
+use Rattle.frames.specs.ReplyLaws.{reply-fit, served-kind, numbers-fit, reply-read}
+use Rattle.frames.specs.LineTrips.{itemsLine, items-reply, Leads, chain-lines}
+
+-- ---- served and refused
+
+-- A line is served with ds, by a chain of n. In kind 08 the letters w are the chain's tree word, and ds tells the chain. In kind 09
+-- the part numbers l are the chain's, and ds tells the tree word.
+pub record TreeReply (w ds : List ℕ) : Type 0 where
+  pub n : ℕ
+  pub chain : List Part
+  pub sums : ChainOf n chain
+  pub above : 1 ≤ n
+  pub fits : n < 2 ^ 64
+  pub word : w ≡ treeOf chain
+  pub digits : ds ≡ chainDigits n (position n chain) (map partNumber chain)
+
+pub record ToTreeReply (l ds : List ℕ) : Type 0 where
+  pub n : ℕ
+  pub chain : List Part
+  pub sums : ChainOf n chain
+  pub above : 1 ≤ n
+  pub fits : n < 2 ^ 64
+  pub numbers : l ≡ map partNumber chain
+  pub digits : ds ≡ lettersDigits (treeOf chain)
+
+-- By the letters alone, and by the part numbers alone.
+module _ (w : Word) where
+  word-served : (ds : List ℕ) → (chainReply (ofTree w) ≡ servedWith ds) ↔ TreeReply w ds
+  unfolding chainReply
+  word-served ds = (λ e. go (ofTree w) refl e, back)
+    where
+      back : TreeReply w ds → chainReply (ofTree w) ≡ servedWith ds
+      back t = rw (t .word, chain-tree-read (t .n) (t .chain) (t .above) (t .sums) (t .fits), t .digits)
+
+      go : (o : Outcome) → ofTree w ≡ o → chainReply (ofTree w) ≡ servedWith ds → TreeReply w ds
+      go (refused r) g e =
+          let z : _≡_ {A = ℕ} 0 1 = cc (rw g at e) in
+          absurd (omega arith)
+      go (gives n c) g e =
+          let (sums, fits, above, word) = tree-gives w n c g in
+          record { n = n; chain = c; sums = sums; above = above; fits = fits; word = sym word; digits = cc (rw g at e) }
+
+  word-refused : (r : ℕ) → (chainReply (ofTree w) ≡ refusedAs r) ↔ (ofTree w ≡ refused r)
+  unfolding chainReply
+  word-refused r = go (ofTree w)
+    where
+      go : (o : Outcome) → (chainReply o ≡ refusedAs r) ↔ (o ≡ refused r)
+      go (refused q) = (λ e. cc, λ e. cc)
+      go (gives n c) = (
+        λ e. let z : _≡_ {A = ℕ} 0 1 = cc in absurd (omega arith),
+        λ e. let z : _≡_ {A = ℕ} 0 1 = cc in absurd (omega arith),
+      )
+
+module _ (l : List ℕ) where
+  record-served : (ds : List ℕ) → (lettersReply (recordTree l) ≡ servedWith ds) ↔ ToTreeReply l ds
+  unfolding lettersReply
+  record-served ds = (λ e. go (recordTree l) refl e, back)
+    where
+      back : ToTreeReply l ds → lettersReply (recordTree l) ≡ servedWith ds
+      back t = rw (t .numbers, chain-tree-written (t .n) (t .chain) (t .above) (t .sums) (t .fits), t .digits)
+
+      go : (t : TreeWord) → recordTree l ≡ t → lettersReply (recordTree l) ≡ servedWith ds → ToTreeReply l ds
+      go (noTree r) g e =
+          let z : _≡_ {A = ℕ} 0 1 = cc (rw g at e) in
+          absurd (omega arith)
+      go (treeWord w) g e =
+          let (n, c, sums, above, fits, numbers, word) = record-tree l w g in
+          let told : ds ≡ lettersDigits w = cc (rw g at e) in
+          record { n = n; chain = c; sums = sums; above = above; fits = fits; numbers = numbers; digits = rw word at told }
+
+  record-refused : (r : ℕ) → (lettersReply (recordTree l) ≡ refusedAs r) ↔ (recordTree l ≡ noTree r)
+  unfolding lettersReply
+  record-refused r = go (recordTree l)
+    where
+      go : (t : TreeWord) → (lettersReply t ≡ refusedAs r) ↔ (t ≡ noTree r)
+      go (noTree q) = (λ e. cc, λ e. cc)
+      go (treeWord w) = (
+        λ e. let z : _≡_ {A = ℕ} 0 1 = cc in absurd (omega arith),
+        λ e. let z : _≡_ {A = ℕ} 0 1 = cc in absurd (omega arith),
+      )
+
+-- A fit line of kind 08.
+module _ (line : List ℕ) (f : shapeOf line ≡ fit tree-line) where
+  tree-reply : replyTo line ≡ chainReply (ofTree (itemsIn tree-line line))
+  unfolding served
+  tree-reply = reply-fit line tree-line f
+
+  pub tree-served : (ds : List ℕ) → (replyTo line ≡ servedWith ds) ↔ TreeReply (itemsIn tree-line line) ds
+  tree-served ds = Iff·trans ((λ e. sym tree-reply ∙ e), λ e. tree-reply ∙ e) (word-served (itemsIn tree-line line) ds)
+
+  pub tree-refused : TreeRefusals (itemsIn tree-line line) (λ r. replyTo line ≡ refusedAs r)
+  tree-refused =
+      tree-lifted (λ r. Iff·trans ((λ e. sym tree-reply ∙ e), λ e. tree-reply ∙ e) (word-refused (itemsIn tree-line line) r))
+      (tree-refusals (itemsIn tree-line line))
+
+-- A fit line of kind 09.
+module _ (line : List ℕ) (f : shapeOf line ≡ fit to-tree-line) where
+  to-tree-reply : replyTo line ≡ lettersReply (recordTree (itemsIn to-tree-line line))
+  unfolding served
+  to-tree-reply = reply-fit line to-tree-line f
+
+  pub to-tree-served : (ds : List ℕ) → (replyTo line ≡ servedWith ds) ↔ ToTreeReply (itemsIn to-tree-line line) ds
+  to-tree-served ds =
+      Iff·trans ((λ e. sym to-tree-reply ∙ e), λ e. to-tree-reply ∙ e) (record-served (itemsIn to-tree-line line) ds)
+
+  pub to-tree-refused : RecordTreeRefusals (itemsIn to-tree-line line) (λ r. replyTo line ≡ refusedAs r)
+  to-tree-refused =
+      record-tree-lifted
+      (λ r. Iff·trans ((λ e. sym to-tree-reply ∙ e), λ e. to-tree-reply ∙ e) (record-refused (itemsIn to-tree-line line) r))
+      (record-tree-refusals (itemsIn to-tree-line line))
+
+-- ---- lines made of values
+
+-- A tree word, and a record whose tree word is asked for.
+abbrev pub treeLine : Word → List ℕ
+treeLine w = itemsLine tree-line [] [] w
+
+abbrev pub toTreeLine : List ℕ → List ℕ
+toTreeLine numbers = itemsLine to-tree-line [] [] numbers
+
+-- What stands in the reply to a line: the part numbers of a chain, and the letters of a tree word.
+abbrev pub numbersTold : List ℕ → List ℕ
+numbersTold ds = fields ds headBytes 2 (field ds partsAt 1)
+
+abbrev pub lettersTold : List ℕ → List ℕ
+lettersTold ds = fields ds lettersAt 1 (field ds lettersCountAt 1)
+
+word-reply : (w : Word) → length w ≤ 255 → Fitting 1 w → replyTo (treeLine w) ≡ chainReply (ofTree w)
+unfolding served rowOf every
+word-reply w h fits =
+    items-reply tree-line [] [] w 0 0 h refl refl refl refl (omega arith) refl refl (λ (v : Word). chainReply (ofTree v))
+    (λ line. refl) fits
+
+numbers-reply : (l : List ℕ) → length l ≤ 127 → Fitting 2 l → replyTo (toTreeLine l) ≡ lettersReply (recordTree l)
+unfolding served rowOf every
+numbers-reply l h fits =
+    items-reply to-tree-line [] [] l 0 0 (omega arith) refl refl refl refl (omega arith) refl refl
+    (λ (x : List ℕ). lettersReply (recordTree x)) (λ line. refl) fits
+
+-- ---- every chain of n, n at least 1
+
+module _ (n : ℕ) (c : List Part) (chain : ChainOf n c) (above : 1 ≤ n) (fits : n < 2 ^ 64) where
+  letters-fit : Fitting 1 (treeOf c)
+  letters-fit = λ i l. omega (arith, tree-low n c above chain i l)
+
+  -- Its record is replied to with its tree word, and its tree word with the chain.
+  pub chain-to-tree : replyTo (toTreeLine (map partNumber c)) ≡ servedWith (lettersDigits (treeOf c))
+  unfolding lettersReply
+  chain-to-tree =
+      numbers-reply (map partNumber c) (omega (arith, few-numbers n c chain fits)) (numbers-fit n c chain fits)
+      ∙ ap lettersReply (chain-tree-written n c above chain fits)
+
+  pub tree-to-chain : replyTo (treeLine (treeOf c)) ≡ servedWith (chainDigits n (position n c) (map partNumber c))
+  unfolding chainReply
+  tree-to-chain =
+      word-reply (treeOf c) (omega (arith, tree-short n c above chain fits)) letters-fit
+      ∙ ap chainReply (chain-tree-read n c above chain fits)
+
+  -- What stands in the two replies.
+  letters-told : lettersTold (lettersDigits (treeOf c)) ≡ treeOf c
+  letters-told =
+      let r = letters-read (treeOf c) (omega (arith, tree-short n c above chain fits)) letters-fit in
+      rw (r .count) (r .each)
+
+  numbers-told : numbersTold (chainDigits n (position n c) (map partNumber c)) ≡ map partNumber c
+  numbers-told =
+      let r : ChainRead n (position n c) (map partNumber c) (chainDigits n (position n c) (map partNumber c)) =
+      rw append-nil at (reply-read n c [] chain fits) in
+      rw (r .parts) (r .each)
+
+-- The chain that a reply ds of the kinds 02 to 06 or 08 tells: its record gets its tree word, and that gets ds.
+pub leads-trees : (ds : List ℕ) (l : Leads ds) → 1 ≤ field ds 1 8
+    → (replyTo (toTreeLine (numbersTold ds)) ≡ servedWith (lettersDigits (treeOf (l .chain))))
+    × (replyTo (treeLine (treeOf (l .chain))) ≡ servedWith ds)
+unfolding chainReply
+leads-trees ds l above =
+    let n = field ds 1 8 in
+    let c = l .chain in
+    let same = sym (chain-lines n c (l .sums) (number-low ds 1) .burned) ∙ rw (l .numbers) at (l .burned) in (
+      rw (l .numbers) (chain-to-tree n c (l .sums) above (number-low ds 1)),
+      tree-to-chain n c (l .sums) above (number-low ds 1) ∙ same,
+    )
+
+-- ---- from one kind to the other and back
+
+-- ds is the reply to a line of kind 08 with the letters w. The line of kind 09 with the part numbers in ds is served with es, in
+-- which w stands. The line of kind 08 with the letters in es is served with ds again.
+pub record WordBack (w ds : List ℕ) : Type 0 where
+  pub es : List ℕ
+  pub asked : replyTo (toTreeLine (numbersTold ds)) ≡ servedWith es
+  pub same : lettersTold es ≡ w
+  pub again : replyTo (treeLine (lettersTold es)) ≡ servedWith ds
+
+-- ds is the reply to a line of kind 09 with the part numbers l. The line of kind 08 with the letters in ds is served with es, in
+-- which l stands. The line of kind 09 with the part numbers in es is served with ds again.
+pub record RecordBack (l ds : List ℕ) : Type 0 where
+  pub es : List ℕ
+  pub asked : replyTo (treeLine (lettersTold ds)) ≡ servedWith es
+  pub same : numbersTold es ≡ l
+  pub again : replyTo (toTreeLine (numbersTold es)) ≡ servedWith ds
+
+module _ (n : ℕ) (c : List Part) (chain : ChainOf n c) (above : 1 ≤ n) (fits : n < 2 ^ 64) where
+  word-back : WordBack (treeOf c) (chainDigits n (position n c) (map partNumber c))
+  word-back =
+      let told = letters-told n c chain above fits in
+      record {
+        es = lettersDigits (treeOf c);
+        asked = rw (numbers-told n c chain above fits) (chain-to-tree n c chain above fits);
+        same = told;
+        again = rw told (tree-to-chain n c chain above fits);
+      }
+
+  record-back : RecordBack (map partNumber c) (lettersDigits (treeOf c))
+  record-back =
+      let told = numbers-told n c chain above fits in
+      record {
+        es = chainDigits n (position n c) (map partNumber c);
+        asked = rw (letters-told n c chain above fits) (tree-to-chain n c chain above fits);
+        same = told;
+        again = rw told (chain-to-tree n c chain above fits);
+      }
+
+-- Any line of kind 08 that is served, and any line of kind 09.
+pub tree-then-to-tree : (line ds : List ℕ) → kindOf (field line 0 1) ≡ some tree-line → replyTo line ≡ servedWith ds
+    → WordBack (itemsIn tree-line line) ds
+unfolding served
+tree-then-to-tree line ds first e =
+    let t = word-served (itemsIn tree-line line) ds .0 (served-kind line ds tree-line first e) in
+    rw (← t .word, ← t .digits) at (word-back (t .n) (t .chain) (t .sums) (t .above) (t .fits))
+
+pub to-tree-then-tree : (line ds : List ℕ) → kindOf (field line 0 1) ≡ some to-tree-line → replyTo line ≡ servedWith ds
+    → RecordBack (itemsIn to-tree-line line) ds
+unfolding served
+to-tree-then-tree line ds first e =
+    let t = record-served (itemsIn to-tree-line line) ds .0 (served-kind line ds to-tree-line first e) in
+    rw (← t .numbers, ← t .digits) at (record-back (t .n) (t .chain) (t .sums) (t .above) (t .fits))
