@@ -259,7 +259,7 @@ def tree_number(word):
 
 
 def is_tree(word):
-    """Whether the six lines produce the word from its number. From the last letter back: where the ends begin that they produce."""
+    """Whether the six lines produce the word from its number. From the last letter back it notes where a produced end begins."""
     begins = {len(word)}
     for at, n in zip(reversed(range(len(word))), itertools.islice(numbers_back(word), 1, None)):
         if any(word.startswith(letters, at) and at + len(letters) in begins for letters in SIX_LINES[n % 6]):

@@ -111,8 +111,8 @@ uint8_t meltsjuk_read_tree(const uint8_t *letters, size_t letters_length, uint64
 
 /* The tree word of a chain. Every chain but the empty one has exactly one, and meltsjuk_read_tree leads back.
  *
- * Lent: the chain's part numbers, largest part first, as meltsjuk_best gives them; MELTSJUK_TREE_PLACES places or more; one number
- * for the length of the word. No scratch is lent.
+ * Lent: the chain's part numbers, largest part first, as meltsjuk_best gives them, and where there are none the length is 0 and the
+ * pointer is not null; MELTSJUK_TREE_PLACES places or more; one number for the length of the word. No scratch is lent.
  * Answers MELTSJUK_SERVED with the length in *k. The first *k places hold the letters, bytes 1 to 3. Then come zeros up to
  * MELTSJUK_TREE_PLACES, and later places are as they were.
  * Otherwise answers the first of these that holds, and the places and *k are as they were: MELTSJUK_LITTLE_LENT, MELTSJUK_NO_PART,

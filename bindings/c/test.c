@@ -312,7 +312,7 @@ static void tree_refused(struct scratch s, const uint8_t *word, size_t length, u
 static void *refused_trees(void *scratch)
 {
     const struct scratch s = *(const struct scratch *)scratch;
-    uint8_t word[69];
+    uint8_t word[69], long_word[300]; /* a line carries at most 255 letters */
 
     memset(word, 1, 4);
     memset(word + 4, 2, 64);
@@ -324,6 +324,10 @@ static void *refused_trees(void *scratch)
     tree_refused(s, word + 4, 64, MELTSJUK_LARGE_SUM, "a tree word of 2^64");
     tree_refused(s, word, 67, MELTSJUK_NO_TREE_WORD, "a tree word of 2^63 + 4 that begins with 1111");
     tree_refused(s, word, 2, MELTSJUK_NO_TREE_WORD, "the letters 11; the words of 3 are 3 and 12");
+    memset(long_word, 1, sizeof long_word);
+    tree_refused(s, long_word, sizeof long_word, MELTSJUK_NO_TREE_WORD, "300 letters 1");
+    memset(long_word, 2, sizeof long_word);
+    tree_refused(s, long_word, sizeof long_word, MELTSJUK_LARGE_SUM, "300 letters 2");
     return NULL;
 }
 

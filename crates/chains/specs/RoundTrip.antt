@@ -58,7 +58,7 @@ chain-word-chain (p ∷ c) h = chain-walk p c (3 ∷ []) h
 -- ---- the first reader takes the word of any parts
 
 -- What the second reader takes is not empty, and the first takes it too.
-second-first : (w : Word) → T (reads false w) → T (someLeft w && reads true w)
+pub second-first : (w : Word) → T (reads false w) → T (someLeft w && reads true w)
 unfolding reads someLeft
 second-first [] h = h
 second-first (zero ∷ w) h = h

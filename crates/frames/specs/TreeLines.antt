@@ -12,11 +12,11 @@ use Prim.Native.Nat.{ℕ, _^_, _≤_, _<_}
 use native.Mathlib.Omega.{arith}
 use lib.ListN.{length}
 use Rattle.chains.specs.Chains.{Part, ChainOf}
-use Rattle.chains.specs.Words.{Word}
+use Rattle.chains.specs.Words.{Word, wordOf}
 use Rattle.chains.specs.Listing.{position}
 use Rattle.parts.specs.Parts.{partNumber}
 use Rattle.ranking.specs.Services.{Outcome, refused, gives}
-use Rattle.trees.specs.Paths.{treeOf}
+use Rattle.trees.specs.TreeOf.{treeOf}
 use Rattle.trees.specs.Answers.{ofTree, TreeWord, noTree, treeWord, recordTree}
 use Rattle.trees.specs.AnswerLaws.{tree-gives, TreeRefusals, tree-lifted, tree-refusals, record-tree, RecordTreeRefusals}
 use Rattle.trees.specs.AnswerLaws.{record-tree-lifted, record-tree-refusals, chain-tree-written, chain-tree-read}
@@ -29,29 +29,29 @@ use Rattle.frames.specs.ReadBack.{Fitting, ChainRead, letters-read}
 use Rattle.frames.specs.Replies.{refusedAs, servedWith, chainReply, lettersReply, served, replyTo}
 use Rattle.frames.specs.ServedLaws.{few-numbers, number-low}
 use Rattle.frames.specs.ReplyLaws.{reply-fit, served-kind, numbers-fit, reply-read}
-use Rattle.frames.specs.LineTrips.{itemsLine, items-reply, Leads, chain-lines}
+use Rattle.frames.specs.LineTrips.{itemsLine, wordLine, items-reply, Leads, chain-lines}
 
 -- ---- served and refused
 
--- A line is served with ds, by a chain of n. In kind 08 the letters w are the chain's tree word, and ds tells the chain. In kind 09
+-- A chain of n, a number from 1 to below 2^64.
+pub record SomeChain : Type 0 where
+  pub n : ℕ
+  pub chain : List Part
+  pub sums : ChainOf n chain
+  pub above : 1 ≤ n
+  pub fits : n < 2 ^ 64
+
+-- A line is served with ds, by such a chain. In kind 08 the letters w are the chain's tree word, and ds tells the chain. In kind 09
 -- the part numbers l are the chain's, and ds tells the tree word.
 pub record TreeReply (w ds : List ℕ) : Type 0 where
-  pub n : ℕ
-  pub chain : List Part
-  pub sums : ChainOf n chain
-  pub above : 1 ≤ n
-  pub fits : n < 2 ^ 64
-  pub word : w ≡ treeOf chain
-  pub digits : ds ≡ chainDigits n (position n chain) (map partNumber chain)
+  pub of : SomeChain
+  pub word : w ≡ treeOf (of .chain)
+  pub digits : ds ≡ chainDigits (of .n) (position (of .n) (of .chain)) (map partNumber (of .chain))
 
 pub record ToTreeReply (l ds : List ℕ) : Type 0 where
-  pub n : ℕ
-  pub chain : List Part
-  pub sums : ChainOf n chain
-  pub above : 1 ≤ n
-  pub fits : n < 2 ^ 64
-  pub numbers : l ≡ map partNumber chain
-  pub digits : ds ≡ lettersDigits (treeOf chain)
+  pub of : SomeChain
+  pub numbers : l ≡ map partNumber (of .chain)
+  pub digits : ds ≡ lettersDigits (treeOf (of .chain))
 
 -- By the letters alone, and by the part numbers alone.
 module _ (w : Word) where
@@ -60,7 +60,9 @@ module _ (w : Word) where
   word-served ds = (λ e. go (ofTree w) refl e, back)
     where
       back : TreeReply w ds → chainReply (ofTree w) ≡ servedWith ds
-      back t = rw (t .word, chain-tree-read (t .n) (t .chain) (t .above) (t .sums) (t .fits), t .digits)
+      back t =
+          let c = t .of in
+          rw (t .word, chain-tree-read (c .n) (c .chain) (c .above) (c .sums) (c .fits), t .digits)
 
       go : (o : Outcome) → ofTree w ≡ o → chainReply (ofTree w) ≡ servedWith ds → TreeReply w ds
       go (refused r) g e =
@@ -68,7 +70,8 @@ module _ (w : Word) where
           absurd (omega arith)
       go (gives n c) g e =
           let (sums, fits, above, word) = tree-gives w n c g in
-          record { n = n; chain = c; sums = sums; above = above; fits = fits; word = sym word; digits = cc (rw g at e) }
+          let of : SomeChain = record { n = n; chain = c; sums = sums; above = above; fits = fits } in
+          record { of = of; word = sym word; digits = cc (rw g at e) }
 
   word-refused : (r : ℕ) → (chainReply (ofTree w) ≡ refusedAs r) ↔ (ofTree w ≡ refused r)
   unfolding chainReply
@@ -87,7 +90,9 @@ module _ (l : List ℕ) where
   record-served ds = (λ e. go (recordTree l) refl e, back)
     where
       back : ToTreeReply l ds → lettersReply (recordTree l) ≡ servedWith ds
-      back t = rw (t .numbers, chain-tree-written (t .n) (t .chain) (t .above) (t .sums) (t .fits), t .digits)
+      back t =
+          let c = t .of in
+          rw (t .numbers, chain-tree-written (c .n) (c .chain) (c .above) (c .sums) (c .fits), t .digits)
 
       go : (t : TreeWord) → recordTree l ≡ t → lettersReply (recordTree l) ≡ servedWith ds → ToTreeReply l ds
       go (noTree r) g e =
@@ -96,7 +101,8 @@ module _ (l : List ℕ) where
       go (treeWord w) g e =
           let (n, c, sums, above, fits, numbers, word) = record-tree l w g in
           let told : ds ≡ lettersDigits w = cc (rw g at e) in
-          record { n = n; chain = c; sums = sums; above = above; fits = fits; numbers = numbers; digits = rw word at told }
+          let of : SomeChain = record { n = n; chain = c; sums = sums; above = above; fits = fits } in
+          record { of = of; numbers = numbers; digits = rw word at told }
 
   record-refused : (r : ℕ) → (lettersReply (recordTree l) ≡ refusedAs r) ↔ (recordTree l ≡ noTree r)
   unfolding lettersReply
@@ -186,6 +192,11 @@ module _ (n : ℕ) (c : List Part) (chain : ChainOf n c) (above : 1 ≤ n) (fits
       word-reply (treeOf c) (omega (arith, tree-short n c above chain fits)) letters-fit
       ∙ ap chainReply (chain-tree-read n c above chain fits)
 
+  -- Kind 08 replies to the chain's tree word as kind 05 does to its path word.
+  pub tree-as-word : replyTo (treeLine (treeOf c)) ≡ replyTo (wordLine (wordOf c))
+  unfolding chainReply
+  tree-as-word = tree-to-chain ∙ sym (chain-lines n c chain fits .spelled)
+
   -- What stands in the two replies.
   letters-told : lettersTold (lettersDigits (treeOf c)) ≡ treeOf c
   letters-told =
@@ -250,17 +261,19 @@ module _ (n : ℕ) (c : List Part) (chain : ChainOf n c) (above : 1 ≤ n) (fits
         again = rw told (chain-to-tree n c chain above fits);
       }
 
--- Any line of kind 08 that is served, and any line of kind 09.
+-- Any line of kind 08 that is served, and any line of kind 09 that is served.
 pub tree-then-to-tree : (line ds : List ℕ) → kindOf (field line 0 1) ≡ some tree-line → replyTo line ≡ servedWith ds
     → WordBack (itemsIn tree-line line) ds
 unfolding served
 tree-then-to-tree line ds first e =
     let t = word-served (itemsIn tree-line line) ds .0 (served-kind line ds tree-line first e) in
-    rw (← t .word, ← t .digits) at (word-back (t .n) (t .chain) (t .sums) (t .above) (t .fits))
+    let c = t .of in
+    rw (← t .word, ← t .digits) at (word-back (c .n) (c .chain) (c .sums) (c .above) (c .fits))
 
 pub to-tree-then-tree : (line ds : List ℕ) → kindOf (field line 0 1) ≡ some to-tree-line → replyTo line ≡ servedWith ds
     → RecordBack (itemsIn to-tree-line line) ds
 unfolding served
 to-tree-then-tree line ds first e =
     let t = record-served (itemsIn to-tree-line line) ds .0 (served-kind line ds to-tree-line first e) in
-    rw (← t .numbers, ← t .digits) at (record-back (t .n) (t .chain) (t .sums) (t .above) (t .fits))
+    let c = t .of in
+    rw (← t .numbers, ← t .digits) at (record-back (c .n) (c .chain) (c .sums) (c .above) (c .fits))

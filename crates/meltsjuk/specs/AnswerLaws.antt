@@ -20,7 +20,7 @@ use Rattle.running.specs.Ran.{ranOf}
 use Rattle.running.specs.RanLaws.{run-refusals}
 use Rattle.running.specs.declared.Ran.{Ran}
 use Rattle.running.specs.declared.Ran.the-variants as ran
-use Rattle.meltsjuk.specs.Answers.{digitsOrRefusal, outcomeStatus, chainAsked, treeAsked, treeStatus, runStatus}
+use Rattle.meltsjuk.specs.Answers.{digitsOrRefusal, outcomeStatus, treeChainAsked, treeAsked, treeStatus, runStatus}
 
 pub one-is-refusal : (little : Bool) (line : List ℕ) → digitsOrRefusal little line ≡ 1 → little ≡ true
 unfolding digitsOrRefusal
@@ -59,9 +59,9 @@ chain-zero (refused r) h = (
 chain-zero (gives n c) h = (λ _. (n, c, refl), λ _. refl)
 
 pub zero-is-chain : (s p : List ℕ) (w : Word)
-    → (outcomeStatus (chainAsked s p w) ≡ 0) ↔ ((n : ℕ) × (c : List Part) × (chainAsked s p w ≡ gives n c))
+    → (outcomeStatus (treeChainAsked s p w) ≡ 0) ↔ ((n : ℕ) × (c : List Part) × (treeChainAsked s p w ≡ gives n c))
 unfolding lent
-zero-is-chain s p w = chain-zero (chainAsked s p w) (some (tooLittle 64 s p))
+zero-is-chain s p w = chain-zero (treeChainAsked s p w) (some (tooLittle 64 s p))
   where
     some : (b : Bool) (r : ℕ) → cond b (refused 1) (ofTree w) ≡ refused r → ¬ (r ≡ 0)
     some true r e f = let same : 1 ≡ r = cc in omega arith

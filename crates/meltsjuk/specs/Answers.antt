@@ -80,8 +80,8 @@ priceOr π (gives n c) x = price π c
 
 -- What is asked for: the chain of a tree word, or the tree word of a record's chain; and refusal 1 first, where too little is
 -- lent.
-abbrev pub chainAsked : List ℕ → List ℕ → Word → Outcome
-chainAsked scratch places letters = lent scratch places (ofTree letters)
+abbrev pub treeChainAsked : List ℕ → List ℕ → Word → Outcome
+treeChainAsked scratch places letters = lent scratch places (ofTree letters)
 
 abbrev pub treeAsked : List ℕ → List ℕ → TreeWord
 treeAsked places numbers = lentTree places (recordTree numbers)

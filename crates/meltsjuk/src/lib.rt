@@ -19,7 +19,7 @@ ghost use Rattle.running.specs.Ran.{ranOf};
 ghost use Rattle.meltsjuk.specs.Answers.{digitsOrRefusal, countStatus, countOr};
 ghost use Rattle.meltsjuk.specs.Answers.{outcomeStatus, numberOr, positionOr, partsOr};
 ghost use Rattle.meltsjuk.specs.Answers.{limitsOf, pricesOf, bestAsked, priceOr};
-ghost use Rattle.meltsjuk.specs.Answers.{chainAsked, treeAsked, treeStatus, lettersOr};
+ghost use Rattle.meltsjuk.specs.Answers.{treeChainAsked, treeAsked, treeStatus, lettersOr};
 ghost use Rattle.meltsjuk.specs.Answers.{runStatus, residueOr};
 
 // Replying to one line, without its byte 10, as `frames::reply` does. Answers how many digits the reply in `out` has, two where the
@@ -149,15 +149,15 @@ pub extern "C" fn meltsjuk_read_tree(
     position: &mut u64,
     k: &mut u64,
 ) -> u8
-    ensures answer { λ r. ⌜ r ≡ outcomeStatus (chainAsked (now (scratch .entry)) (now (places .entry)) (now (letters .entry))) ⌝ }
+    ensures answer { λ r. ⌜ r ≡ outcomeStatus (treeChainAsked (now (scratch .entry)) (now (places .entry)) (now (letters .entry))) ⌝ }
     ensures n { λ _. ⌜ now (n .exit)
-        ≡ numberOr (chainAsked (now (scratch .entry)) (now (places .entry)) (now (letters .entry))) (now (n .entry)) ⌝ }
+        ≡ numberOr (treeChainAsked (now (scratch .entry)) (now (places .entry)) (now (letters .entry))) (now (n .entry)) ⌝ }
     ensures position { λ _. ⌜ now (position .exit)
-        ≡ positionOr (chainAsked (now (scratch .entry)) (now (places .entry)) (now (letters .entry))) (now (position .entry)) ⌝ }
+        ≡ positionOr (treeChainAsked (now (scratch .entry)) (now (places .entry)) (now (letters .entry))) (now (position .entry)) ⌝ }
     ensures k { λ _. ⌜ now (k .exit)
-        ≡ partsOr (chainAsked (now (scratch .entry)) (now (places .entry)) (now (letters .entry))) (now (k .entry)) ⌝ }
+        ≡ partsOr (treeChainAsked (now (scratch .entry)) (now (places .entry)) (now (letters .entry))) (now (k .entry)) ⌝ }
     ensures places { λ _. ⌜ now (places .exit)
-        ≡ placesLeft (chainAsked (now (scratch .entry)) (now (places .entry)) (now (letters .entry))) (now (places .entry)) ⌝ }
+        ≡ placesLeft (treeChainAsked (now (scratch .entry)) (now (places .entry)) (now (letters .entry))) (now (places .entry)) ⌝ }
     ensures scratch { λ _. ⌜ now (scratch .exit)
         ≡ scratchLeft (tooLittle 64 (now (scratch .entry)) (now (places .entry))) (now (scratch .entry)) ⌝ }
 {

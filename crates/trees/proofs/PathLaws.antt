@@ -1,9 +1,9 @@
 -- A tree word and its path word in the answers of the services: reading the path word is reading the tree word, and the letters
 -- along the bits of a path word are those along the path word itself.
-use mathlib.Core.Path.{_≡_, refl, sym, ap, _∙_}
+use mathlib.Core.Path.{_≡_, refl, sym, _∙_}
 use mathlib.Core.Bool.{Bool, true}
 use mathlib.Core.List.{List, [], _∷_}
-use Prim.Native.Nat.{ℕ, zero, suc, _+_, _*_, _/_, _%_, _^_, _≤_, _<_}
+use Prim.Native.Nat.{ℕ, zero, suc, _/_, _%_, _^_, _≤_, _<_}
 use native.Mathlib.Omega.{arith}
 use lib.Dec.{T}
 use lib.Ieee.Bits.{is-true}
@@ -20,8 +20,9 @@ use Rattle.words.specs.Packed.{bits, rise}
 use Rattle.words.specs.PackedLaws.{PackedFrom}
 use Rattle.ranking.specs.Services.{ofWord}
 use Rattle.trees.specs.Trees.{produced}
-use Rattle.trees.specs.Letters.{letterAt, numberAfter, letter-range}
-use Rattle.trees.specs.Paths.{pathFrom, upNext, lettersIn, treeOf, up-low}
+use Rattle.trees.specs.TreeOf.{letterAt, numberAfter, upNext, lettersIn, treeOf, pathFrom}
+use Rattle.trees.specs.Letters.{letter-range}
+use Rattle.trees.specs.Paths.{up-low}
 use Rattle.trees.specs.TreeLaws.{led, read-path, produced-short, chain-tree}
 use Rattle.trees.specs.Answers.{ofTree}
 use Rattle.trees.specs.AnswerLaws.{tree-read}

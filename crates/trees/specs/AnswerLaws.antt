@@ -8,10 +8,9 @@ use mathlib.Core.List.{List, [], _∷_, map}
 use Prim.Native.Nat.{ℕ, zero, suc, _^_, _≤_, _<_}
 use native.Mathlib.Omega.{arith}
 use lib.Dec.{T, ltb, eqb, ltb→lt, lt→ltb, eqb→eq}
-use lib.Ieee.Bits.{is-true}
 use lib.Ieee.Fits.{eq→eqb}
 use lib.ListN.{length, getD}
-use borrow.Author.Tests.{lt-ltb, le-ltb}
+use borrow.Author.Tests.{le-ltb}
 use Rattle.chains.specs.Chains.{Part, Chained, total, ChainOf}
 use Rattle.chains.specs.Words.{Word}
 use Rattle.chains.specs.Bounds.{chain-of-0}
@@ -20,7 +19,7 @@ use Rattle.lent.specs.Lent.{Enough}
 use Rattle.words.specs.Records.{recordParts}
 use Rattle.words.specs.WordLaws.{parts-of-numbers, chain-judged}
 use Rattle.words.specs.TestLaws.{is-first, is-second, in-first, in-second, one-of-both}
-use Rattle.words.specs.Refusals.{not-below, Outside, RecordRefusals}
+use Rattle.words.specs.Refusals.{not-below, Outside}
 use Rattle.words.specs.declared.Judged.{Judged}
 use Rattle.words.specs.declared.Judged.the-variants as judged
 use Rattle.words.specs.declared.Written.the-variants as written
@@ -30,7 +29,7 @@ use Rattle.ranking.specs.RoundTrips.{found-refused}
 use Rattle.ranking.specs.Refusals.{record-refusals, Little, found-too-little}
 use Rattle.ranking.specs.declared.Found.the-variants as found
 use Rattle.trees.specs.Trees.{produced, number, readBack}
-use Rattle.trees.specs.Paths.{treeOf}
+use Rattle.trees.specs.TreeOf.{treeOf}
 use Rattle.trees.specs.TreeLaws.{tree-number, tree-chain, tree-positive, tree-chain-tree, produced-short, chain-tree, chain-tree-chain}
 use Rattle.trees.specs.TreeLaws.{tree-letters}
 use Rattle.trees.specs.Answers.{foreign, treeJudged, treeAs, ofTree, TreeWord, noTree, treeWord, treeBy, recordTree}

@@ -14,7 +14,7 @@ use Rattle.words.specs.declared.Written.{Written}
 use Rattle.words.specs.declared.Written.the-variants as written
 use Rattle.ranking.specs.Services.{Outcome, refused, gives, ofRecord}
 use Rattle.trees.specs.Trees.{produced, number, readBack}
-use Rattle.trees.specs.Paths.{treeOf}
+use Rattle.trees.specs.TreeOf.{treeOf}
 
 -- ---- reading a tree word
 

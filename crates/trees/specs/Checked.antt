@@ -1,8 +1,7 @@
--- Numbers and words of document 02's T-05 that antt computes: the four tree words of 19, and a tree word of 157 letters.
+-- Numbers and words of document 02's T-05: the tree word of 1, the four tree words of 19, and a tree word of 157 letters.
 use mathlib.Core.Path.{_≡_, refl}
 use mathlib.Core.Logic.{_↔_}
-use mathlib.Core.Bool.{Bool, true}
-use mathlib.Core.List.{List, [], _∷_, _++_, map, List·Memᴰ}
+use mathlib.Core.List.{List, [], _∷_, _++_, List·Memᴰ}
 use Prim.Native.Nat.{ℕ, zero, suc, _<_, _^_}
 use native.Mathlib.Omega.{arith}
 use lib.Dec.{T}
@@ -10,10 +9,15 @@ use lib.ListN.{length}
 use Rattle.chains.specs.Chains.{value, total}
 use Rattle.chains.specs.Words.{Word, right, up, path, marked, walk, wordOf, chainFrom, chainOf}
 use Rattle.chains.specs.Listing.{byThird, atRest, wordsIn, wordsAt, listOf}
-use Rattle.trees.specs.Trees.{line, produced, number}
-use Rattle.trees.specs.Letters.{letterAt, numberAfter}
-use Rattle.trees.specs.Paths.{upNext, lettersIn, treeOf}
+use Rattle.trees.specs.Trees.{line, produced}
+use Rattle.trees.specs.TreeOf.{letterAt, numberAfter, upNext, lettersIn, treeOf}
 use Rattle.trees.specs.TreeLaws.{treesOf, tree-words}
+
+-- The number 1 has the empty word alone.
+pub words-of-1 : (t : Word) → T (produced t 1) ↔ (t ≡ [])
+unfolding produced
+words-of-1 [] = (λ _. refl, λ _. tt)
+words-of-1 (l ∷ t) = (absurd, λ e. let z : _≡_ {A = ℕ} 0 1 = cc in absurd (omega arith))
 
 -- The tree words of 19, in the order of its list: of 16 + 2 + 1, 12 + 4 + 2 + 1, 12 + 6 + 1 and 18 + 1.
 unfoldable pub fourWords : List Word

@@ -5,13 +5,14 @@ use mathlib.Core.Path.{_≡_, refl, ap, sym, _∙_}
 use mathlib.Core.Logic.{_⊎_, inl, inr}
 use mathlib.Core.Bool.{Bool, true, false, _&&_, _||_}
 use mathlib.Core.List.{[], _∷_}
-use Prim.Native.Nat.{ℕ, zero, suc, _+_, _-_, _*_, _/_, _%_, _≤_, _<_}
+use Prim.Native.Nat.{ℕ, zero, suc, _-_, _/_, _%_, _≤_, _<_}
 use native.Mathlib.Omega.{arith}
 use lib.Dec.{T, ltb, eqb, eqb→eq, ltb→lt, lt→ltb}
 use lib.Ieee.Fits.{and-i, and-l, and-r, eq→eqb}
 use mir.Facts.{or-yes}
 use Rattle.chains.specs.Words.{Word}
 use Rattle.trees.specs.Trees.{line, produced, producedAfter}
+use Rattle.trees.specs.TreeOf.{letterAt, numberAfter}
 
 -- ---- definitions
 
@@ -24,22 +25,6 @@ rising (suc zero ∷ w) = rising w
 rising (suc (suc zero) ∷ w) = 0
 rising (suc (suc (suc zero)) ∷ w) = 1
 rising (suc (suc (suc (suc l))) ∷ w) = rising w
-
--- The letter at a number with the remainder r modulo six, where u tells whether 3 is the next letter that is not 1.
-unfoldable pub letterAt : ℕ → ℕ → ℕ
-letterAt zero u = 1 + 2 * u
-letterAt (suc zero) u = 1
-letterAt (suc (suc zero)) u = 2
-letterAt (suc (suc (suc zero))) u = 1 + 2 * u
-letterAt (suc (suc (suc (suc zero)))) u = 2 - u
-letterAt (suc (suc (suc (suc (suc r))))) u = 1
-
--- The number after a letter.
-unfoldable pub numberAfter : ℕ → ℕ → ℕ
-numberAfter zero n = n
-numberAfter (suc zero) n = n - 1
-numberAfter (suc (suc zero)) n = n / 2
-numberAfter (suc (suc (suc l))) n = n / 3
 
 -- The letter l comes first in a word produced from n, and t are the letters after it.
 pub record Letter (n l : ℕ) (t : Word) : Type 0 where

@@ -1,6 +1,6 @@
 -- From a tree word to the path word of its chain, and from a path word to its tree word: both ways lead back.
--- In order: the definitions; a path word by its first letter; from a tree word to its path word (`walked`); from a path word to its
--- tree word (`lettered`); one path word has one tree word at a number (`same-word`).
+-- In order: a path word by its first letter; from a tree word to its path word (`walked`); from a path word to its tree word
+-- (`lettered`); one path word has one tree word at a number (`same-word`).
 use mathlib.Core.Path.{_≡_, refl, sym, ap, _∙_}
 use mathlib.Core.Bool.{Bool, true, false, cond, _&&_}
 use mathlib.Core.List.{List, [], _∷_, _++_, map}
@@ -12,57 +12,17 @@ use lib.Ieee.Fits.{and-i, and-l, and-r}
 use lib.ListN.{length, drop}
 use borrow.Author.Tests.{ltb-true, ltb-false}
 use Rattle.chains.specs.Chains.{Part, value, total}
-use Rattle.chains.specs.Words.{Word, origin, right, up, someLeft, reads, wordOf, chainFrom, chainOf}
+use Rattle.chains.specs.Words.{Word, right, up, someLeft, reads, chainFrom, chainOf}
 use Rattle.chains.specs.Weight.{weight}
 use Rattle.chains.specs.Marks.{part-left}
+use Rattle.chains.specs.RoundTrip.{second-first}
 use Rattle.trees.specs.Trees.{produced, those, lowest, binaryIn, binary, adding, readBack}
-use Rattle.trees.specs.Letters.{rising, letterAt, numberAfter, Letter, only-one, first-letter, rising-low, with-letter}
-use Rattle.trees.specs.Owed.{Owed, none, Turn, one, two, three, turn, owed-at-one}
+use Rattle.trees.specs.TreeOf.{letterAt, numberAfter, upNext, lettersIn, pathFrom}
+use Rattle.trees.specs.Letters.{rising, Letter, only-one, first-letter, rising-low, with-letter}
+use Rattle.trees.specs.Owed.{Owed, none, Onward, one, two, three, onward, owed-at-one}
 use Rattle.trees.specs.BackLaws.{chain-right, chain-up, adding-more, adding-right, adding-up, adding-none}
 
--- ---- definitions
-
--- The path word of a tree word's chain. p letters 1 are still owed: at a letter 2 or 3 a point of the path comes, and after a 2 half
--- of what is owed is owed on.
-unfoldable pub pathFrom : ℕ → Word → Word
-pathFrom p [] = 3 ∷ []
-pathFrom p (zero ∷ w) = pathFrom p w
-pathFrom p (suc zero ∷ w) = pathFrom (suc p) w
-pathFrom p (suc (suc zero) ∷ w) = p % 2 ∷ pathFrom (p / 2) w
-pathFrom p (suc (suc (suc zero)) ∷ w) = suc (suc p) ∷ pathFrom 0 w
-pathFrom p (suc (suc (suc (suc l))) ∷ w) = pathFrom p w
-
--- 1 where b rises at the first point of a path word, or the word ends there; 0 where a rises, and for the empty word.
-unfoldable pub upNext : Word → ℕ
-upNext [] = 0
-upNext (zero ∷ v) = 0
-upNext (suc zero ∷ v) = 0
-upNext (suc (suc l) ∷ v) = 1
-
--- The letters of a tree word from the number n on, along the path word v. After 2 and 3 a point has been passed. With k bounding the
--- number of letters; n are enough.
-unfoldable pub lettersIn : ℕ → ℕ → Word → Word
-lettersIn zero n v = []
-lettersIn (suc k) n v =
-    let l = letterAt (n % 6) (upNext v) in
-    let rest = lettersIn k (numberAfter l n) (drop (l / 2) v) in
-    cond (ltb 1 n) (l ∷ rest) []
-
--- The tree word of a chain: the one word that the lines produce from its sum and that is read back as it (`one-tree-word`).
-unfoldable pub treeOf : List Part → Word
-treeOf c = lettersIn (total c) (total c) (wordOf c)
-
 -- ---- a path word by its first letter
-
--- What the reader after a rise of a takes is not empty, and the other takes it too.
-second-first : (w : Word) → T (reads false w) → T (someLeft w) × T (reads true w)
-unfolding reads someLeft
-second-first [] h = absurd h
-second-first (zero ∷ w) h = (tt, h)
-second-first (suc zero ∷ w) h = (tt, h)
-second-first (suc (suc zero) ∷ w) h = absurd h
-second-first (suc (suc (suc zero)) ∷ w) h = (tt, h)
-second-first (suc (suc (suc (suc x))) ∷ w) h = absurd h
 
 -- What a rise of a, or of b, makes of the number.
 weight-right : (r : ℕ) (v : Word) → r ≤ 1 → weight (r ∷ v) ≡ r + 2 * weight v
@@ -178,7 +138,7 @@ abbrev Walks : Word → Type 0
 Walks t = (p n s : ℕ) (f : Bool) → T (produced t n) → Owed p n (rising t) s → (p ≡ 0 → n % 3 ≡ 0 → T f) → Walked p n t f s
 
 walked-letter : (l : ℕ) (t : Word) (p n s : ℕ) (f : Bool) → Letter n l t → (p ≡ 0 → n % 3 ≡ 0 → T f) → Walks t
-    → Turn p n (rising (l ∷ t)) s l → Walked p n (l ∷ t) f s
+    → Onward p n (rising (l ∷ t)) s l → Walked p n (l ∷ t) f s
 unfolding rising numberAfter
 walked-letter l t p n s f k g on (one e z o) =
     rw e (walked-one p n s t f (k .more) (on (suc p) (n - 1) (s + 2) f (rw e at (k .rest)) (rw e at o) (λ y. absurd (omega arith))))
@@ -198,26 +158,26 @@ walked [] p n s f h o g = walked-end p n s f h o
 walked (l ∷ t) p n s f h o g =
     let k = first-letter n l t h in
     walked-letter l t p n s f k g (λ p n s f h o g. walked t p n s f h o g)
-    (turn n (rising (l ∷ t)) l (k .more) (rising-low (l ∷ t)) (k .falls) p s (k .is) o)
+    (onward n (rising (l ∷ t)) l (k .more) (rising-low (l ∷ t)) (k .falls) p s (k .is) o)
 
 -- ---- from a path word to its tree word
 
 -- A path word on which a rises first, and one on which b does.
-pub record Right (f : Bool) (v : Word) : Type 0 where
+record Right (v : Word) : Type 0 where
   letter : ℕ
   later : Word
   starts : v ≡ letter ∷ later
   low : letter ≤ 1
   good : T (reads false later)
 
-rises-a : (f : Bool) (v : Word) → upNext v ≡ 0 → 0 < weight v → T (reads f v) → Right f v
+rises-a : (f : Bool) (v : Word) → upNext v ≡ 0 → 0 < weight v → T (reads f v) → Right v
 unfolding upNext reads weight
 rises-a f [] e s h = absurd (omega arith)
 rises-a f (zero ∷ v) e s h = record { letter = 0; later = v; starts = refl; low = omega arith; good = h }
 rises-a f (suc zero ∷ v) e s h = record { letter = 1; later = v; starts = refl; low = omega arith; good = h }
 rises-a f (suc (suc x) ∷ v) e s h = absurd (omega arith)
 
-pub record Upward (f : Bool) (v : Word) : Type 0 where
+record Upward (f : Bool) (v : Word) : Type 0 where
   letter : ℕ
   later : Word
   starts : v ≡ suc (suc letter) ∷ later
@@ -272,7 +232,7 @@ lone : (v : Word) (f : Bool) → T (reads f v) → weight v ≡ 1 → v ≡ 3 �
 unfolding reads weight someLeft
 lone [] f h e = absurd (omega arith)
 lone (zero ∷ v) f h e = absurd (omega arith)
-lone (suc zero ∷ v) f h e = absurd (omega (arith, part-left v false h (second-first v h .0) .1))
+lone (suc zero ∷ v) f h e = absurd (omega (arith, part-left v false h (and-l (someLeft v) (reads true v) (second-first v h)) .1))
 lone (suc (suc zero) ∷ v) f h e = absurd (omega arith)
 lone (suc (suc (suc zero)) ∷ []) f h e = refl
 lone (suc (suc (suc zero)) ∷ l ∷ v) f h e = absurd (omega (arith, part-left (l ∷ v) true h tt .1))
@@ -302,7 +262,7 @@ module _ (p n s : ℕ) (v : Word) (f : Bool) (a : Asks p n s v f) (more : 1 < n)
         path = k .path;
       }
 
-  lettered-two : 2 ≡ letterAt (n % 6) 0 → (r : Right f v) → n % 2 ≡ 0 → Lettered (p / 2) (n / 2) (r .later) t → Lettered p n v (2 ∷ t)
+  lettered-two : 2 ≡ letterAt (n % 6) 0 → (r : Right v) → n % 2 ≡ 0 → Lettered (p / 2) (n / 2) (r .later) t → Lettered p n v (2 ∷ t)
   unfolding pathFrom rising numberAfter
   lettered-two e r d k =
       let w : weight v ≡ r .letter + 2 * weight (r .later) = ap weight (r .starts) ∙ weight-right (r .letter) (r .later) (r .low) in
@@ -325,11 +285,11 @@ module _ (p n s : ℕ) (v : Word) (f : Bool) (a : Asks p n s v f) (more : 1 < n)
 abbrev Letters : ℕ → Type 0
 Letters k = (p n s : ℕ) (v : Word) (f : Bool) → n ≤ k → Asks p n s v f → Lettered p n v (lettersIn k n v)
 
-lettered-turn : (k p n s : ℕ) (v : Word) (f : Bool) → Letters k → n ≤ suc k → Asks p n s v f → 1 < n → (l : ℕ)
-    → l ≡ letterAt (n % 6) (upNext v) → Turn p n (upNext v) s l
+lettered-letter : (k p n s : ℕ) (v : Word) (f : Bool) → Letters k → n ≤ suc k → Asks p n s v f → 1 < n → (l : ℕ)
+    → l ≡ letterAt (n % 6) (upNext v) → Onward p n (upNext v) s l
     → Lettered p n v (l ∷ lettersIn k (numberAfter l n) (drop (l / 2) v))
 unfolding numberAfter
-lettered-turn k p n s v f on h a more l d (one e z o) =
+lettered-letter k p n s v f on h a more l d (one e z o) =
     rw e
     (lettered-one p n s v f a more (lettersIn k (n - 1) v) (rw e at d)
     (on (suc p) (n - 1) (s + 2) v f (omega arith)
@@ -340,7 +300,7 @@ lettered-turn k p n s v f on h a more l d (one e z o) =
       weighs = omega (arith, a .weighs);
       falls = λ y. z (omega arith);
     })))
-lettered-turn k p n s v f on h a more l d (two e z m q b o) =
+lettered-letter k p n s v f on h a more l d (two e z m q b o) =
     let r = rises-a f v z (omega (arith, a .weighs, a .pos)) (a .good) in
     let w : weight v ≡ r .letter + 2 * weight (r .later) = ap weight (r .starts) ∙ weight-right (r .letter) (r .later) (r .low) in
     let rest : weight (r .later) ≡ n / 2 + p / 2 = omega (arith, r .low, a .weighs) in
@@ -350,7 +310,7 @@ lettered-turn k p n s v f on h a more l d (two e z m q b o) =
     (lettered-two p n s v f a more (lettersIn k (n / 2) (r .later)) (rw (e, z) at d) r m
     (on (p / 2) (n / 2) (s - 3) (r .later) false (omega arith)
     (record { pos = omega arith; owed = o (upNext (r .later)) falls; good = r .good; weighs = rest; falls = falls })))
-lettered-turn k p n s v f on h a more l d (three e z m b q) =
+lettered-letter k p n s v f on h a more l d (three e z m b q) =
     let r = rises-b f v z (omega (arith, a .weighs, a .pos)) (a .good) in
     let w : weight v ≡ r .letter + 3 * weight (r .later) = ap weight (r .starts) ∙ weight-up (r .letter) (r .later) (r .low) in
     let rest : weight (r .later) ≡ n / 3 + 0 = omega (arith, r .low, a .weighs) in
@@ -379,8 +339,8 @@ lettered-on (suc k) p n s v f h a = go (ltb 1 n) refl (λ p n s v f h a. lettere
         ∷ lettersIn k (numberAfter (letterAt (n % 6) (upNext v)) n) (drop (letterAt (n % 6) (upNext v) / 2) v)) [])
     go true e on =
         let more = ltb-true 1 n e in
-        lettered-turn k p n s v f on h a more (letterAt (n % 6) (upNext v)) refl
-        (turn n (upNext v) (letterAt (n % 6) (upNext v)) more (up-low v) (a .falls) p s refl (a .owed))
+        lettered-letter k p n s v f on h a more (letterAt (n % 6) (upNext v)) refl
+        (onward n (upNext v) (letterAt (n % 6) (upNext v)) more (up-low v) (a .falls) p s refl (a .owed))
     go false e on = lettered-end p n s v f a (ltb-false 1 n e)
 
 -- A good path word of a number of at least 1.

@@ -1,43 +1,61 @@
 -- Tree words, the theorems of record: document 02, T-05; 003, figure 1.
--- In order: what a produced word leads to; what a chain leads to; that a chain has exactly one tree word (`one-tree-word`) and which
+-- In order: the number of a word; what a produced word leads to; what a chain leads to; that a chain has exactly one tree word (`one-tree-word`) and which
 -- words a number's lines produce (`tree-words`); how long a tree word is (`tree-short`), and its letters.
 use mathlib.Core.Path.{_≡_, refl, ap, sym, _∙_}
 use mathlib.Core.Logic.{_↔_}
-use mathlib.Core.Bool.{Bool, true, false}
-use mathlib.Core.List.{List, [], _∷_, map, List·Memᴰ, Memᴰ·cast, Memᴰ·map, Memᴰ·of-map}
-use Prim.Native.Nat.{ℕ, zero, suc, _+_, _-_, _*_, _^_, _/_, _%_, _≤_, _<_}
+use mathlib.Core.Bool.{true}
+use mathlib.Core.List.{List, [], _∷_, map, List·Memᴰ, Memᴰ·map, Memᴰ·of-map}
+use Prim.Native.Nat.{ℕ, zero, suc, _-_, _^_, _%_, _≤_, _<_}
+use native.Mathlib.Nat.{le-refl, le-trans}
 use native.Mathlib.Omega.{arith}
 use lib.Dec.{T}
-use lib.ListN.{length, getD}
-use Rattle.chains.specs.Chains.{Part, total, ChainOf}
-use Rattle.chains.specs.Words.{Word, reads, wordOf, chainOf}
+use lib.ListN.{length, drop, getD}
+use Rattle.chains.specs.Chains.{Part, ChainOf}
+use Rattle.chains.specs.Words.{Word, wordOf, chainOf}
 use Rattle.chains.specs.Listing.{listOf}
-use Rattle.chains.specs.Weight.{weight, total-chainOf}
+use Rattle.chains.specs.Weight.{total-chainOf}
 use Rattle.chains.specs.RoundTrip.{chain-word-chain, word-reads, word-chained, word-chain-word}
 use Rattle.chains.specs.Bounds.{weight-wordOf, letters-bound}
 use Rattle.chains.specs.Listed.{list-of-chains, chain-listed}
-use Rattle.trees.specs.Trees.{produced, number, adding, readBack}
-use Rattle.trees.specs.Letters.{rising, letterAt, numberAfter, Letter, only-one, first-letter, rising-low, letter-range}
-use Rattle.trees.specs.Owed.{Owed, none, Turn, one, two, three, turn}
+use Rattle.trees.specs.Trees.{produced, number, readBack}
+use Rattle.trees.specs.TreeOf.{numberAfter, lettersIn, treeOf, pathFrom}
+use Rattle.trees.specs.Letters.{rising, Letter, only-one, first-letter, rising-low, letter-range}
+use Rattle.trees.specs.Owed.{none, Onward, one, two, three, onward}
 use Rattle.trees.specs.BackLaws.{adding-none}
-use Rattle.trees.specs.Paths.{pathFrom, lettersIn, treeOf, Walked, walked, Lettered, lettered, same-word}
+use Rattle.trees.specs.Paths.{Walked, walked, Lettered, lettered, same-word}
+
+-- ---- the number of a word
+
+-- From the last letter back it never falls. So it reaches a bound on the way exactly if the whole word's number does.
+letter-more : (l : ℕ) (w : Word) → number w ≤ number (l ∷ w)
+unfolding number
+letter-more zero w = omega arith
+letter-more (suc zero) w = omega arith
+letter-more (suc (suc zero)) w = omega arith
+letter-more (suc (suc (suc zero))) w = omega arith
+letter-more (suc (suc (suc (suc x)))) w = omega arith
+
+pub number-later : (i : ℕ) (w : Word) → number (drop i w) ≤ number w
+number-later zero w = le-refl (number w)
+number-later (suc i) [] = le-refl (number [])
+number-later (suc i) (l ∷ w) = le-trans (number-later i w) (letter-more l w)
 
 -- ---- what a produced word leads to
 
 -- The number of a produced word is the one that it was produced from.
-number-turn : (n l : ℕ) (t : Word) → Letter n l t → Turn 0 n (rising (l ∷ t)) 0 l → number t ≡ numberAfter l n → number (l ∷ t) ≡ n
+number-letter : (n l : ℕ) (t : Word) → Letter n l t → Onward 0 n (rising (l ∷ t)) 0 l → number t ≡ numberAfter l n → number (l ∷ t) ≡ n
 unfolding number numberAfter
-number-turn n l t k (one e z o) h = let g = rw e at h in rw e (omega (arith, k .more))
-number-turn n l t k (two e z m q b o) h = let g = rw e at h in rw e (omega arith)
-number-turn n l t k (three e z m b q) h = let g = rw e at h in rw e (omega arith)
+number-letter n l t k (one e z o) h = let g = rw e at h in rw e (omega (arith, k .more))
+number-letter n l t k (two e z m q b o) h = let g = rw e at h in rw e (omega arith)
+number-letter n l t k (three e z m b q) h = let g = rw e at h in rw e (omega arith)
 
 pub tree-number : (t : Word) (n : ℕ) → T (produced t n) → number t ≡ n
 unfolding number
 tree-number [] n h = sym (only-one n h)
 tree-number (l ∷ t) n h =
     let k = first-letter n l t h in
-    number-turn n l t k
-    (turn n (rising (l ∷ t)) l (k .more) (rising-low (l ∷ t)) (k .falls) 0 0 (k .is) (none refl (omega arith)))
+    number-letter n l t k
+    (onward n (rising (l ∷ t)) l (k .more) (rising-low (l ∷ t)) (k .falls) 0 0 (k .is) (none refl (omega arith)))
     (tree-number t (numberAfter l n) (k .rest))
 
 module _ (t : Word) (n : ℕ) (h : T (produced t n)) where

@@ -9,8 +9,7 @@ use Rattle.chains.specs.Words.{Word}
 use Rattle.trees.specs.declared.producing.Way.{Way}
 use Rattle.trees.specs.declared.producing.Way.the-variants.{Go, Closed}
 use Rattle.trees.specs.Trees.{produced, producedAfter}
-use Rattle.trees.specs.Letters.{letterAt, numberAfter}
-use Rattle.trees.specs.Paths.{pathFrom}
+use Rattle.trees.specs.TreeOf.{letterAt, numberAfter, pathFrom}
 
 -- ---- reading along the lines
 

@@ -42,7 +42,7 @@ pub fn read_tree(letters: &[u8], scratch: &mut [u64], places: &mut [u16]) -> Fou
     }
 }
 
-// The tree word of a record's chain: its letters, then zeros up to 160, later places untouched. Told is the number of letters.
+// The tree word of a record's chain: its letters, then zeros up to 160, later places untouched. It tells how many letters there are.
 // Refuses with 1 for fewer than 160 places, with what the record gets (8, 9, 10), then with 15 for the empty chain, which has no
 // tree word; with a refusal nothing is touched.
 pub fn write_tree(numbers: &[u16], places: &mut [u8]) -> Written

@@ -4,7 +4,7 @@ ghost use mathlib.Core.List.{_++_};
 ghost use Prim.Native.Nat.{_%_, _≤_, _<_};
 ghost use lib.ListN.{length, drop};
 ghost use Rattle.lent.specs.Lent.{filled};
-ghost use Rattle.trees.specs.Letters.{letterAt, numberAfter};
+ghost use Rattle.trees.specs.TreeOf.{letterAt, numberAfter};
 ghost use Rattle.trees.specs.Walk.{lettersFor};
 
 // The letter at a number: its remainder modulo six decides, and where that leaves two lines, whether b rises next. Then `up` is 1,

@@ -1,21 +1,20 @@
 -- `read_tree` meets its contract: a word that is not refused is read as its path word.
 use mathlib.Core.Path.{_≡_, refl, sym, ap, _∙_}
 use mathlib.Core.List.{List}
-use Prim.Native.Nat.{ℕ, _≤_, _<_}
+use Prim.Native.Nat.{ℕ, _≤_}
 use native.Mathlib.Nat.{sub-zero}
 use native.Mathlib.Omega.{arith}
-use lib.ListN.{length, take}
+use lib.ListN.{length}
 use borrow.Author.Needs.{needs}
 use Rattle.chains.specs.Words.{Word}
 use Rattle.lent.specs.Lent.{scratchSize, littleScratch, tooLittle, scratchLeft}
 use Rattle.lent.specs.LentLaws.{little-scratch, little-places, served-zeroed}
-use Rattle.words.specs.declared.Judged.{Judged}
 use Rattle.words.specs.declared.Judged.the-variants as judged
-use Rattle.ranking.specs.Services.{Outcome, refused, lent, answerOf, placesLeft, ofWord}
+use Rattle.ranking.specs.Services.{Outcome, lent, answerOf, placesLeft, ofWord}
 use Rattle.ranking.specs.declared.Found.{Found}
 use Rattle.ranking.specs.declared.Found.the-variants as found
 use Rattle.ranking.proofs.Answers.{little, refused-served}
-use Rattle.trees.specs.Paths.{pathFrom}
+use Rattle.trees.specs.TreeOf.{pathFrom}
 use Rattle.trees.specs.Answers.{treeJudged, treeAs, ofTree}
 use Rattle.trees.specs.AnswerLaws.{judged-tree}
 use Rattle.trees.specs.Walk.{Readable}

@@ -1,5 +1,5 @@
 -- `write_tree` meets its contract: the letters along the bits of the record's word are the tree word of its chain.
-use mathlib.Core.Path.{_≡_, refl, sym, ap, _∙_}
+use mathlib.Core.Path.{_≡_, refl, sym, _∙_}
 use mathlib.Core.List.{List}
 use Prim.Native.Nat.{ℕ, zero, suc, _≤_, _<_}
 use native.Mathlib.Omega.{arith}
@@ -14,8 +14,8 @@ use Rattle.words.specs.PackedLaws.{packed-word, packed-refused}
 use Rattle.words.specs.declared.Packed.the-variants as packed
 use Rattle.words.specs.declared.Written.{Written}
 use Rattle.words.specs.declared.Written.the-variants.{Letters, Refused}
-use Rattle.ranking.specs.Services.{gives, refused, judgedAs, ofRecord}
-use Rattle.trees.specs.Paths.{treeOf}
+use Rattle.ranking.specs.Services.{gives, judgedAs, ofRecord}
+use Rattle.trees.specs.TreeOf.{treeOf}
 use Rattle.trees.specs.Answers.{TreeWord, noTree, treeWord, treeBy, recordTree, lentTree, treeTold, treeLeft}
 use Rattle.trees.specs.Walk.{lettersFor}
 use Rattle.trees.proofs.PathLaws.{record-letters, record-short}

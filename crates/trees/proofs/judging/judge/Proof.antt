@@ -15,9 +15,9 @@ use Rattle.trees.proofs.judging.judge.Statement.{statement}
 use Rattle.trees.proofs.judging.judge.Tie as tie
 
 module _ (w : Word) (g : Bool) (read : g ≡ foreign w) where
-  odd : g ≡ true → Refused 15 ≡ treeJudged w
+  has-foreign : g ≡ true → Refused 15 ≡ treeJudged w
   unfolding treeJudged
-  odd e = rw (← read, e)
+  has-foreign e = rw (← read, e)
 
   module _ (known : g ≡ false) where
     over : Over ≡ sized (number w) → Refused 10 ≡ treeJudged w
@@ -59,7 +59,7 @@ judge-spec =
     tie.close
     (tie.spec
     (λ c κs. search needs)
-    (λ c. odd _ _ (c .before .is-foreign .ensures) (c .if1 .taken))
+    (λ c. has-foreign _ _ (c .before .is-foreign .ensures) (c .if1 .taken))
     (λ c κs. search needs)
     (λ c. search needs)
     (λ c. search needs)

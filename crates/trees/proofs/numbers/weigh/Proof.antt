@@ -1,9 +1,9 @@
 -- The letters read so far, from the last one back, are the end of the word, and n is their number: this is the invariant. If their
 -- number reaches 2^64, so does the word's.
 use mathlib.Core.Path.{_≡_, sym, _∙_}
-use mathlib.Core.List.{[], _∷_}
-use Prim.Native.Nat.{ℕ, zero, suc, _-_, _≤_, _<_}
-use native.Mathlib.Nat.{le-refl, le-trans}
+use mathlib.Core.List.{_∷_}
+use Prim.Native.Nat.{ℕ, suc, _-_, _≤_, _<_}
+use native.Mathlib.Nat.{le-trans}
 use native.Mathlib.Omega.{arith}
 use lib.ListN.{length, drop, getD}
 use lib.Seq.{drop-cons, drop-length}
@@ -14,22 +14,9 @@ use Rattle.words.specs.declared.Weighed.{Weighed}
 use Rattle.words.specs.declared.Weighed.the-variants.{Number, Over}
 use Rattle.words.proofs.Sized.{sized-over, number-is, over-is}
 use Rattle.trees.specs.Trees.{number}
+use Rattle.trees.specs.TreeLaws.{number-later}
 use Rattle.trees.proofs.numbers.weigh.Statement.{statement}
 use Rattle.trees.proofs.numbers.weigh.Tie as tie
-
--- A word's number is no less than that of what is left of it behind its first letters.
-letter-more : (l : ℕ) (w : Word) → number w ≤ number (l ∷ w)
-unfolding number
-letter-more zero w = omega arith
-letter-more (suc zero) w = omega arith
-letter-more (suc (suc zero)) w = omega arith
-letter-more (suc (suc (suc zero))) w = omega arith
-letter-more (suc (suc (suc (suc x)))) w = omega arith
-
-drop-less : (i : ℕ) (w : Word) → number (drop i w) ≤ number w
-drop-less zero w = le-refl (number w)
-drop-less (suc i) [] = le-refl (number [])
-drop-less (suc i) (l ∷ w) = le-trans (drop-less i w) (letter-more l w)
 
 none-read : (l : Word) → Number 1 ≡ sized (number (drop (length l) l))
 unfolding number sized
@@ -46,7 +33,7 @@ module _
         rw (drop-cons l (i - 1) 0 (omega arith), e) (f (drop i l) (sym (number-is _ n read)))
 
     over : x ≡ Over → Over ≡ sized (number l)
-    over e = sym (sized-over (number l) (le-trans (over-is _ (sym e ∙ next)) (drop-less (i - 1) l)))
+    over e = sym (sized-over (number l) (le-trans (over-is _ (sym e ∙ next)) (number-later (i - 1) l)))
 
 abbrev Inv-loop : tie.InvT-loop
 Inv-loop letters n₀ i₀ n i = (i ≤ length letters) × (Number n ≡ sized (number (drop i letters)))

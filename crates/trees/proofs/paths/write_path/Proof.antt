@@ -12,9 +12,10 @@ use lib.Seq.{drop-cons, take-set-le, take-suc-set, append-snoc}
 use borrow.Author.Needs.{needs}
 use Rattle.chains.specs.Words.{Word, someLeft}
 use Rattle.trees.specs.Trees.{produced}
-use Rattle.trees.specs.Letters.{rising, numberAfter, first-letter, rising-low, letter-range}
-use Rattle.trees.specs.Owed.{Owed, none, Turn, one, two, three, turn, owed-few}
-use Rattle.trees.specs.Paths.{pathFrom, path-some, falls-at}
+use Rattle.trees.specs.TreeOf.{numberAfter, pathFrom}
+use Rattle.trees.specs.Letters.{rising, first-letter, rising-low, letter-range}
+use Rattle.trees.specs.Owed.{Owed, none, Onward, one, two, three, onward, owed-few}
+use Rattle.trees.specs.Paths.{path-some, falls-at}
 use Rattle.trees.specs.Walk.{Readable}
 use Rattle.trees.proofs.paths.write_path.Statement.{statement}
 use Rattle.trees.proofs.paths.write_path.Tie as tie
@@ -59,7 +60,7 @@ record Passed (t : Word) (path : List ℕ) (p j x q l n : ℕ) : Type 0 where
   whole : take (j + l / 2) (set path j x) ++ pathFrom q t ≡ take j path ++ pathFrom p (l ∷ t)
 
 passed : (t : Word) (path : List ℕ) (p j x q l n s : ℕ) → j < length path → T (produced t (numberAfter l n))
-    → Turn p n (rising (l ∷ t)) s l → x ≡ 2 * (l / 3) + p % 2 → q ≡ p / (1 + l / 2) + (1 - l / 2) → Passed t path p j x q l n
+    → Onward p n (rising (l ∷ t)) s l → x ≡ 2 * (l / 3) + p % 2 → q ≡ p / (1 + l / 2) + (1 - l / 2) → Passed t path p j x q l n
 unfolding pathFrom rising numberAfter
 passed t path p j x q l n s room h (one e z o) ex eq =
     let f : q ≡ suc p = (rw e at eq) ∙ omega arith in
@@ -125,7 +126,7 @@ module _ {w : Word} {path : List ℕ} {size owed j : ℕ} (i : ℕ) (c : Walk w 
         let n = here .number in
         let k = first-letter n l t (here .made) in
         let o = passed t path owed j _ _ l n (here .spare) (omega (arith, bounds .room, c .same)) (k .rest)
-        (turn n (rising (l ∷ t)) l (k .more) (rising-low (l ∷ t)) (k .falls) owed (here .spare) (k .is) (here .owing)) refl refl in
+        (onward n (rising (l ∷ t)) l (k .more) (rising-low (l ∷ t)) (k .falls) owed (here .spare) (k .is) (here .owing)) refl refl in
         rw add-one (record {
           number = numberAfter l n;
           made = k .rest;

@@ -1,6 +1,6 @@
 -- What is left of the word goes on from n, after the letter `next`: this is the invariant.
 use mathlib.Core.Path.{_≡_, refl, sym, ap, _∙_}
-use mathlib.Core.Bool.{Bool, true, false}
+use mathlib.Core.Bool.{false}
 use mathlib.Core.List.{[], _∷_}
 use Prim.Native.Nat.{ℕ, zero, suc, _+_, _-_, _≤_, _<_}
 use native.Mathlib.Numerals.{add-one}
@@ -10,7 +10,7 @@ use lib.ListN.{length, drop, getD, drop-of-length-le}
 use lib.Seq.{drop-cons}
 use borrow.Author.Needs.{needs}
 use Rattle.chains.specs.Words.{Word}
-use Rattle.trees.specs.Trees.{produced, producedAfter}
+use Rattle.trees.specs.Trees.{produced}
 use Rattle.trees.specs.Walk.{goesOnFrom, goesOn}
 use Rattle.trees.specs.declared.producing.Way.{Way}
 use Rattle.trees.specs.declared.producing.Way.the-variants.{Go, Closed}

@@ -1,5 +1,5 @@
 -- Each arm is the definition's own line for that remainder.
-use mathlib.Core.Path.{_≡_, refl, _∙_}
+use mathlib.Core.Path.{_≡_, _∙_}
 use mathlib.Core.Bool.{Bool, _&&_, _||_}
 use mathlib.Core.List.{_∷_}
 use Prim.Native.Nat.{ℕ, _%_, _<_}
@@ -12,6 +12,7 @@ use Rattle.trees.specs.declared.producing.Way.{Way}
 use Rattle.trees.specs.declared.producing.Way.the-variants.{Go}
 use Rattle.trees.specs.Trees.{line, produced, producedAfter}
 use Rattle.trees.specs.Walk.{goesOnFrom, goesOn}
+use Rattle.trees.proofs.Remainders.{five}
 use Rattle.trees.proofs.producing.line_step.Statement.{statement}
 use Rattle.trees.proofs.producing.line_step.Tie as tie
 
@@ -29,9 +30,6 @@ two-ways : (l x m y x′ m′ y′ : ℕ) (w : Word) (o o′ : Way) (r : Bool) �
     → r ≡ ((eqb l x && goesOnFrom m y w) || (eqb l x′ && goesOnFrom m′ y′ w))
 unfolding goesOn
 two-ways l x m y x′ m′ y′ w o o′ r e f h = rw (e, f) at h
-
-five : (r : ℕ) → (r ≡ 0 → ⊥) → (r ≡ 1 → ⊥) → (r ≡ 2 → ⊥) → (r ≡ 3 → ⊥) → (r ≡ 4 → ⊥) → r < 6 → r ≡ 5
-five r a b c d e h = omega arith
 
 returns : tie.Need-returns
 unfolding goesOnFrom line

@@ -1,5 +1,5 @@
 -- The letter that must come, no line at 1, or the line of the number.
-use mathlib.Core.Path.{_≡_, refl, sym, _∙_}
+use mathlib.Core.Path.{_≡_, refl, _∙_}
 use mathlib.Core.Bool.{Bool, false, _&&_}
 use mathlib.Core.List.{_∷_}
 use Prim.Native.Nat.{ℕ, zero, suc, _≤_, _<_}
@@ -10,7 +10,7 @@ use borrow.Author.Tests.{le-ltb}
 use Rattle.chains.specs.Words.{Word}
 use Rattle.trees.specs.declared.producing.Way.{Way}
 use Rattle.trees.specs.declared.producing.Way.the-variants.{Go}
-use Rattle.trees.specs.Trees.{produced, producedAfter}
+use Rattle.trees.specs.Trees.{produced}
 use Rattle.trees.specs.Walk.{goesOnFrom, goesOn}
 use Rattle.trees.proofs.producing.step.Statement.{statement}
 use Rattle.trees.proofs.producing.step.Tie as tie

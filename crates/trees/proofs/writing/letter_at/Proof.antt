@@ -1,18 +1,17 @@
 -- Each arm is the definition's own line.
-use mathlib.Core.Path.{_≡_, refl, sym}
-use Prim.Native.Nat.{ℕ, _+_, _-_, _*_, _%_, _≤_, _<_}
+use mathlib.Core.Path.{_≡_, refl}
+use Prim.Native.Nat.{ℕ, _-_, _≤_}
 use native.Mathlib.Omega.{arith}
 use borrow.Author.Needs.{needs}
-use Rattle.trees.specs.Letters.{letterAt, letter-range}
+use Rattle.trees.specs.TreeOf.{letterAt}
+use Rattle.trees.specs.Letters.{letter-range}
+use Rattle.trees.proofs.Remainders.{five}
 use Rattle.trees.proofs.writing.letter_at.Statement.{statement}
 use Rattle.trees.proofs.writing.letter_at.Tie as tie
 
 -- The letter l at the remainder r.
 at : (r q u l : ℕ) → u ≤ 1 → q ≡ r → l ≡ letterAt r u → (l ≡ letterAt q u) × (1 ≤ l) × (l ≤ 3)
 at r q u l h e d = let (low, high) = letter-range r u h in (rw e d, omega arith, omega arith)
-
-five : (r : ℕ) → (r ≡ 0 → ⊥) → (r ≡ 1 → ⊥) → (r ≡ 2 → ⊥) → (r ≡ 3 → ⊥) → (r ≡ 4 → ⊥) → r < 6 → r ≡ 5
-five r a b c d e h = omega arith
 
 pub letter-at-spec : {M : Type 1} → statement M
 unfolding letterAt

@@ -1,9 +1,9 @@
 -- Each arm is the definition's own line.
 use mathlib.Core.Path.{_≡_, refl}
-use Prim.Native.Nat.{ℕ, zero, suc, _-_, _/_, _≤_, _<_}
+use Prim.Native.Nat.{ℕ, zero, suc, _-_, _/_, _≤_}
 use native.Mathlib.Omega.{arith}
 use borrow.Author.Needs.{needs}
-use Rattle.trees.specs.Letters.{numberAfter}
+use Rattle.trees.specs.TreeOf.{numberAfter}
 use Rattle.trees.proofs.writing.number_after.Statement.{statement}
 use Rattle.trees.proofs.writing.number_after.Tie as tie
 

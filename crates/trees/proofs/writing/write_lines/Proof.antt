@@ -10,7 +10,7 @@ use lib.Seq.{drop-cons, set-at, append-snoc}
 use borrow.Author.Needs.{needs}
 use borrow.Author.Tests.{lt-ltb, le-ltb}
 use Rattle.chains.specs.Words.{Word}
-use Rattle.trees.specs.Letters.{letterAt, numberAfter}
+use Rattle.trees.specs.TreeOf.{letterAt, numberAfter}
 use Rattle.trees.specs.Walk.{lettersBy, lettersFor}
 use Rattle.trees.proofs.writing.write_lines.Statement.{statement}
 use Rattle.trees.proofs.writing.write_lines.Tie as tie
