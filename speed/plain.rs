@@ -38,6 +38,11 @@ impl Tables {
     pub fn number(&self, a: usize, b: usize) -> u16 {
         self.parts.binary_search(&(self.pow3[b] << a)).unwrap() as u16
     }
+
+    /// a and b of the largest part 2^a × 3^b of a chain, both 0 for the empty one.
+    fn largest(&self, numbers: &[u16]) -> (usize, usize) {
+        numbers.first().map_or((0, 0), |&i| self.exponents[i as usize])
+    }
 }
 
 fn cell(a: usize, b: usize, after_a: usize) -> usize {
@@ -274,8 +279,14 @@ fn read_word(ts: &Tables, word: &[u8], t: &mut Table) -> Result<Chain, u8> {
     Ok(Chain { n, position: rank(ts, n, word, t), numbers: numbers(ts, word), price: 0 })
 }
 
-/// The sum and the parts of a record.
-fn record_parts(ts: &Tables, numbers: &[u16]) -> Result<(u64, Vec<u64>), u8> {
+/// A chain by its part numbers, with the parts and their sum.
+struct Record {
+    numbers: Vec<u16>,
+    values: Vec<u64>,
+    n: u64,
+}
+
+fn record(ts: &Tables, numbers: Vec<u16>) -> Result<Record, u8> {
     if numbers.len() > 64 || numbers.iter().any(|&i| i as usize >= ts.parts.len()) {
         return Err(8);
     }
@@ -287,37 +298,45 @@ fn record_parts(ts: &Tables, numbers: &[u16]) -> Result<(u64, Vec<u64>), u8> {
     for v in &values {
         n = n.checked_add(*v).ok_or(10)?;
     }
-    Ok((n, values))
+    Ok(Record { numbers, values, n })
 }
 
-/// The sum and the word of a record.
-fn record_word(ts: &Tables, numbers: &[u16]) -> Result<(u64, Vec<u8>), u8> {
-    let (n, _) = record_parts(ts, numbers)?;
+/// The record of a line, from a and b of its largest part on.
+fn record_in(ts: &Tables, bytes: &[u8]) -> Result<Record, u8> {
+    let numbers = bytes[2..].chunks(2).map(|p| number(p) as u16).collect();
+    let r = record(ts, numbers)?;
+    if ts.largest(&r.numbers) != (bytes[0] as usize, bytes[1] as usize) {
+        return Err(16);
+    }
+    Ok(r)
+}
+
+fn record_word(ts: &Tables, r: &Record) -> Vec<u8> {
     let mut word = Vec::new();
     let (mut a, mut b) = (0, 0);
-    for (k, &i) in numbers.iter().enumerate().rev() {
+    for (k, &i) in r.numbers.iter().enumerate().rev() {
         let (pa, pb) = ts.exponents[i as usize];
         let from = word.len();
         word.resize(from + pb - b, 2);
         word.resize(from + pb - b + pa - a, 0);
-        if k + 1 < numbers.len() {
+        if k + 1 < r.numbers.len() {
             word[from] += 1;
         }
         a = pa;
         b = pb;
     }
-    if n > 0 {
+    if r.n > 0 {
         word.push(3);
     }
-    Ok((n, word))
+    word
 }
 
-fn read_record(ts: &Tables, numbers: &[u16], t: &mut Table) -> Result<Chain, u8> {
-    let (n, word) = record_word(ts, numbers)?;
-    if n > 0 {
-        fill_counts(ts, n, t);
+fn read_record(ts: &Tables, r: Record, t: &mut Table) -> Chain {
+    let word = record_word(ts, &r);
+    if r.n > 0 {
+        fill_counts(ts, r.n, t);
     }
-    Ok(Chain { n, position: rank(ts, n, &word, t), numbers: numbers.to_vec(), price: 0 })
+    Chain { n: r.n, position: rank(ts, r.n, &word, t), numbers: r.numbers, price: 0 }
 }
 
 fn times_modulo(r: u64, f: u64, m: u64) -> u64 {
@@ -328,23 +347,26 @@ fn plus_modulo(r: u64, x: u64, m: u64) -> u64 {
     ((r as u128 + x as u128) % m as u128) as u64
 }
 
-/// A record's chain, run on x modulo m: back along its word, doubling, tripling and adding, each with a remainder of 128 bits.
-fn run_chain(ts: &Tables, numbers: &[u16], m: u64, x: u64) -> Result<u64, u8> {
+fn check_residue(m: u64, x: u64) -> Result<(), u8> {
     if m == 0 || m > 1 << 63 {
         return Err(13);
     }
     if x >= m {
         return Err(14);
     }
-    let (_, word) = record_word(ts, numbers)?;
+    Ok(())
+}
+
+/// A record's chain, run on x modulo m: back along its word, doubling, tripling and adding, each with a remainder of 128 bits.
+fn run_chain(ts: &Tables, record: &Record, m: u64, x: u64) -> u64 {
     let mut r = 0;
-    for &l in word.iter().rev() {
+    for &l in record_word(ts, record).iter().rev() {
         r = times_modulo(r, if l < 2 { 2 } else { 3 }, m);
         if l % 2 == 1 {
             r = plus_modulo(r, x, m);
         }
     }
-    Ok(r)
+    r
 }
 
 /// A chain for its tree word: the sum of its powers of two, and its other parts, which are all multiples of 3.
@@ -441,16 +463,16 @@ fn read_tree(ts: &Tables, letters: &[u8], t: &mut Table) -> Result<Chain, u8> {
     for &l in letters.iter().rev() {
         chain.by_letter(l);
     }
-    let numbers: Vec<u16> = chain.chain().iter().map(|p| ts.parts.binary_search(p).unwrap() as u16).collect();
-    read_record(ts, &numbers, t)
+    let numbers = chain.chain().iter().map(|p| ts.parts.binary_search(p).unwrap() as u16).collect();
+    Ok(read_record(ts, record(ts, numbers)?, t))
 }
 
-fn write_tree(ts: &Tables, numbers: &[u16]) -> Result<Vec<u8>, u8> {
-    let (mut n, parts) = record_parts(ts, numbers)?;
+fn write_tree(r: &Record) -> Result<Vec<u8>, u8> {
+    let mut n = r.n;
     if n == 0 {
         return Err(15);
     }
-    let mut chain = TreeChain::new(&parts);
+    let mut chain = TreeChain::new(&r.values);
     let mut word = Vec::new();
     while n > 1 {
         let (letters, next): (&[u8], u64) = match n % 6 {
@@ -473,11 +495,14 @@ fn digits(out: &mut String, v: u64, bytes: usize) {
     out.push_str(&format!("{:0w$X}", v, w = bytes * 2));
 }
 
-fn chain_reply(c: &Chain, price: bool) -> String {
+fn chain_reply(ts: &Tables, c: &Chain, price: bool) -> String {
     let mut out = String::from("00");
+    let (a, b) = ts.largest(&c.numbers);
     digits(&mut out, c.n, 8);
     digits(&mut out, c.position, 8);
     digits(&mut out, c.numbers.len() as u64, 1);
+    digits(&mut out, a as u64, 1);
+    digits(&mut out, b as u64, 1);
     for &i in &c.numbers {
         digits(&mut out, i as u64, 2);
     }
@@ -500,10 +525,6 @@ fn letters_reply(letters: &[u8]) -> String {
         digits(&mut out, l as u64, 1);
     }
     out
-}
-
-fn part_numbers(bytes: &[u8]) -> Vec<u16> {
-    bytes.chunks(2).map(|p| number(p) as u16).collect()
 }
 
 fn number(bytes: &[u8]) -> u64 {
@@ -530,9 +551,9 @@ fn answer(ts: &Tables, line: &[u8], t: &mut Table) -> Result<String, u8> {
         1 => 9,
         2 => 20,
         3 => 17,
-        4 | 9 => 2 + 2 * count_byte,
+        4 | 9 => 4 + 2 * count_byte,
         5 | 6 | 8 => 2 + count_byte,
-        7 => 18 + 2 * count_byte,
+        7 => 20 + 2 * count_byte,
         _ => return Err(4),
     };
     if bytes.len() != length {
@@ -552,20 +573,24 @@ fn answer(ts: &Tables, line: &[u8], t: &mut Table) -> Result<String, u8> {
                 s2: number(&bytes[16..18]),
                 s3: number(&bytes[18..20]),
             };
-            best(ts, &q, t).map(|c| chain_reply(&c, true))
+            best(ts, &q, t).map(|c| chain_reply(ts, &c, true))
         }
-        3 => chain_at(ts, n, number(&bytes[9..17]), t).map(|c| chain_reply(&c, false)),
-        4 => read_record(ts, &part_numbers(&bytes[2..]), t).map(|c| chain_reply(&c, false)),
-        5 => read_word(ts, &bytes[2..], t).map(|c| chain_reply(&c, false)),
-        7 => run_chain(ts, &part_numbers(&bytes[18..]), n, number(&bytes[9..17])).map(single_reply),
-        8 => read_tree(ts, &bytes[2..], t).map(|c| chain_reply(&c, false)),
-        9 => write_tree(ts, &part_numbers(&bytes[2..])).map(|letters| letters_reply(&letters)),
+        3 => chain_at(ts, n, number(&bytes[9..17]), t).map(|c| chain_reply(ts, &c, false)),
+        4 => record_in(ts, &bytes[2..]).map(|r| chain_reply(ts, &read_record(ts, r, t), false)),
+        5 => read_word(ts, &bytes[2..], t).map(|c| chain_reply(ts, &c, false)),
+        7 => {
+            let x = number(&bytes[9..17]);
+            check_residue(n, x)?;
+            record_in(ts, &bytes[18..]).map(|r| single_reply(run_chain(ts, &r, n, x)))
+        }
+        8 => read_tree(ts, &bytes[2..], t).map(|c| chain_reply(ts, &c, false)),
+        9 => write_tree(&record_in(ts, &bytes[2..])?).map(|letters| letters_reply(&letters)),
         _ => {
             let c = read_word(ts, &bytes[2..], t)?;
             if c.position + 1 >= count(ts, c.n, t) {
                 return Err(11);
             }
-            chain_at(ts, c.n, c.position + 1, t).map(|c| chain_reply(&c, false))
+            chain_at(ts, c.n, c.position + 1, t).map(|c| chain_reply(ts, &c, false))
         }
     }
 }

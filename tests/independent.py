@@ -1,7 +1,7 @@
 #!/usr/bin/env python3
 """The independent program: what the proved programs must print and reply, made by other roads than theirs.
 
-    independent.py WHAT                     writes what the test program of that name must print (or, for WHAT-stdin, what it must be given)
+    independent.py WHAT                     writes what the program of that name must print (or, for WHAT-stdin, what it must be given)
     independent.py --into FOLDER WHAT...    writes several such files, each under its name
     independent.py                          lists the WHATs
 
@@ -10,7 +10,8 @@ by walking the points; their order by sorting text. Any 64-bit number: the engin
 largest down by what n leaves modulo the part taken last. test_best finds its best chains by growth from the smallest part too
 (tests/grown.py). Tree words: the six lines as T-05 writes them, letters read on parts and undone on parts (tree_words, read_back,
 tree_word_of). At every run check_003 holds the engine to the search, on whole lists, check_one_price holds the replies to those that were
-stored when an addition had one price, and check_trees holds tree words to the chains that the search finds.
+stored when an addition had one price, check_no_exponents to those that were stored before T-06, check_trees holds tree words to the chains
+that the search finds, and check_exponents holds a and b of every part to its value.
 
 Not shared with the crates:
 - any code;
@@ -23,7 +24,8 @@ Not shared with the crates:
 - tree words by way of path words, with the letters 1 that are owed: here every letter multiplies or adds to the parts themselves, and a
   chain's tree word is found by undoing letters on its parts. No path word is used;
 - the tree letter that n and the path's next rise decide: here both ways are tried, and exactly one word must come of it;
-- the test of a tree word from its first letter on: here from its last letter back, which of its ends are tree words.
+- the test of a tree word from its first letter on: here from its last letter back, which of its ends are tree words;
+- a and b worked out of a part's number: here the part is looked up in the sorted list of points (TABLE), which holds them.
 
 Shared with the crates:
 - the definitions of documents 01 and 02 and of 003, T-05's six lines among them, and the order of the refusals;
@@ -137,6 +139,11 @@ def chain_of(word):
 
 def sum_of(chain):
     return sum(2**a * 3**b for a, b in chain)
+
+
+def exponents(chain):
+    """a and b of the largest part, 2^a × 3^b; 0 and 0 for the empty chain."""
+    return chain[0] if chain else (0, 0)
 
 
 # ---- numbers of any size, by the engine
@@ -359,7 +366,9 @@ def check_003():
     for n, entries in enumerate(lists):
         check_list(n, entries)
     check_apart(lists)
+    check_exponents()
     check_one_price()
+    check_no_exponents()
     check_trees(2000)
     for n in BY_SEARCH:
         chains = chains_of(n)
@@ -374,11 +383,13 @@ def check_003():
 def check_list(n, entries):
     """The engine's answers on a number against its whole list: the count, each position, each chain, and the best within limits.
 
-    Every chain of the list runs to the same residue, which is that of x added up n times. With s2 = s3 = s a price is that of one s.
+    Every chain of the list runs to the same residue, which is that of x added up n times. With s2 = s3 = s a price is that of one s. A chain's
+    reply from k on, made into a line of kind 04, gets this reply again.
     """
     assert count(n) == len(entries) and ask("at", n, len(entries)) is None
     for i, (word, chain) in enumerate(entries):
         assert good(word) and word_at(n, i) == word and position_of(word) == i and chain_of(word) == chain
+        assert reply_to(b"04" + chain_reply(n, chain)[K_AT_REPLY:].encode()) == chain_reply(n, chain)
     assert len({word for word, _ in entries}) == len(entries)
     m, x = RUNS[n % len(RUNS)]
     assert {reply_to(run_line(m, x, numbers_of(c))) for _, c in entries} == {residue_reply(sum(itertools.repeat(x, n)) % m)}
@@ -387,7 +398,7 @@ def check_list(n, entries):
         least = listed_best(entries, limits, prices)
         assert best(n, *limits, *prices) == (least and (least[0], least[1], word_of(least[3])))
     for (_, chain), (d, t, s, _) in itertools.product(entries, CHECKED_PRICES):
-        a, b = chain[0] if chain else (0, 0)
+        a, b = exponents(chain)
         assert price_of(chain, d, t, s, s) == d * a + t * b + s * max(len(chain) - 1, 0)
 
 
@@ -398,11 +409,37 @@ def check_apart(lists):
     assert min(n for n in range(len(lists)) if pulled_apart(n, FREE, only_s2)) == 10
 
 
+def times_divided(value, by):
+    """How often a number can be divided without a remainder."""
+    return 1 + times_divided(value // by, by) if value % by == 0 else 0
+
+
+def check_exponents():
+    """a and b of each part say how often its value can be halved and thirded. No part has bytes above 63 and 40."""
+    for chain in ([p] for p in TABLE):
+        assert exponents(chain) == (times_divided(sum_of(chain), 2), times_divided(sum_of(chain), 3))
+    assert max(a for a, _ in TABLE) == 63 and max(b for _, b in TABLE) == 40 and exponents([]) == (0, 0)
+
+
 def check_one_price():
-    """The 2,086 earlier lines of kind 02, with one price s for an addition: with s2 = s3 = s each gets its earlier reply, and as it stands 02."""
-    file = stored("one_price_lines")
-    assert answer(with_price_twice(file)).encode() == stored("one_price_replies")
+    """The 2,086 earlier lines of kind 02, with one price s for an addition: with s2 = s3 = s each gets its earlier reply, and as it stands 02.
+
+    The earlier replies had no a and b. These are put in.
+    """
+    file, wanted = with_exponents("one_price")
+    assert answer(with_price_twice(file)).encode() == wanted
     assert len(set(lines_of(file))) == 2086 and {reply_to(line) for line in lines_of(file)} == {"02"}
+
+
+def check_no_exponents():
+    """5,253 lines of kinds 03 to 09 that were stored before T-06: with a and b put in, each gets its earlier reply with a and b put in.
+
+    As they stand, those of kinds 04, 07 and 09 get 02.
+    """
+    file, wanted = with_exponents("no_exponents")
+    assert answer(file).encode() == wanted
+    earlier = lines_of(stored("no_exponents_lines"))
+    assert len(set(earlier)) == 5253 and {reply_to(line) for line in earlier if line[:2] in K_AT} == {"02"}
 
 
 def check_trees(most):
@@ -454,7 +491,8 @@ def check_back(n, chance):
 
 
 def chain_reply(n, chain, price=None):
-    text = f"00{n:016X}{position_of(word_of(chain)):016X}{len(chain):02X}" + "".join(f"{NUMBER[p]:04X}" for p in chain)
+    a, b = exponents(chain)
+    text = f"00{n:016X}{position_of(word_of(chain)):016X}{len(chain):02X}{a:02X}{b:02X}" + "".join(f"{NUMBER[p]:04X}" for p in chain)
     return text if price is None else text + f"{price:08X}"
 
 
@@ -472,21 +510,29 @@ def refusal_of_record(numbers):
     return 10 if sum(values) >= LIMIT else None
 
 
-def reply_to_record(numbers):
+def refusal_of_line(numbers, a, b):
+    """The same for a record in a line, which has two bytes more: T-06's refusal 16 comes after the record's own."""
     refusal = refusal_of_record(numbers)
+    if refusal:
+        return refusal
+    return None if (a, b) == exponents([TABLE[i] for i in numbers]) else 16
+
+
+def reply_to_record(numbers, a, b):
+    refusal = refusal_of_line(numbers, a, b)
     if refusal:
         return f"{refusal:02X}"
     chain = [TABLE[i] for i in numbers]
     return chain_reply(sum_of(chain), chain)
 
 
-def reply_to_run(m, x, numbers):
+def reply_to_run(m, x, numbers, a, b):
     """The residue of n × x, where n is the sum of the parts: no path is followed."""
     if not 1 <= m <= 2**63:
         return "0D"
     if x >= m:
         return "0E"
-    refusal = refusal_of_record(numbers)
+    refusal = refusal_of_line(numbers, a, b)
     return f"{refusal:02X}" if refusal else residue_reply(sum(VALUE[TABLE[i]] for i in numbers) * x % m)
 
 
@@ -519,9 +565,9 @@ def reply_to_tree(letters):
     return chain_reply(n, chain)
 
 
-def reply_to_tree_of(numbers):
-    """The tree word of a record's chain. The empty chain has none."""
-    refusal = refusal_of_record(numbers) or (None if numbers else 15)
+def reply_to_tree_of(numbers, a, b):
+    """The tree word of a record's chain. The empty chain has none, which is the last refusal."""
+    refusal = refusal_of_line(numbers, a, b) or (None if numbers else 15)
     if refusal:
         return f"{refusal:02X}"
     word = tree_word_of([TABLE[i] for i in numbers])
@@ -538,7 +584,7 @@ def reply_to(line):
     kind = data[0]
     counted_at = 17 if kind == 7 else 1
     more = data[counted_at] if len(data) > counted_at else 0
-    lengths = {1: 9, 2: 20, 3: 17, 4: 2 + 2 * more, 5: 2 + more, 6: 2 + more, 7: 18 + 2 * more, 8: 2 + more, 9: 2 + 2 * more}
+    lengths = {1: 9, 2: 20, 3: 17, 4: 4 + 2 * more, 5: 2 + more, 6: 2 + more, 7: 20 + 2 * more, 8: 2 + more, 9: 4 + 2 * more}
     if kind not in lengths:
         return "04"
     if len(data) != lengths[kind]:
@@ -553,10 +599,11 @@ def reply_to(line):
         n, position = number(1, 8), number(9, 8)
         return chain_reply(n, chain_of(word_at(n, position))) if position < count(n) else "06"
     if kind in (4, 7, 9):
-        numbers = [number(counted_at + 1 + 2 * i, 2) for i in range(more)]
+        a, b = data[counted_at + 1 : counted_at + 3]
+        numbers = [number(counted_at + 3 + 2 * i, 2) for i in range(more)]
         if kind == 7:
-            return reply_to_run(number(1, 8), number(9, 8), numbers)
-        return reply_to_record(numbers) if kind == 4 else reply_to_tree_of(numbers)
+            return reply_to_run(number(1, 8), number(9, 8), numbers, a, b)
+        return reply_to_record(numbers, a, b) if kind == 4 else reply_to_tree_of(numbers, a, b)
     return reply_to_tree(data[2:]) if kind == 8 else reply_to_word(list(data[2:]), kind == 6)
 
 
@@ -595,9 +642,20 @@ def numbers_of(chain):
     return [NUMBER[p] for p in chain]
 
 
-def record_of(kind, numbers, k=None):
-    """With another count than there are numbers, where one is named."""
-    return hexed((kind, 1), (len(numbers) if k is None else k, 1), *((i, 2) for i in numbers))
+def largest_of(numbers):
+    """a and b of the part that a record begins with; 0 and 0 where there is none."""
+    return TABLE[numbers[0]] if numbers and numbers[0] < len(TABLE) else (0, 0)
+
+
+def fields_of(numbers, k, largest):
+    """What the lines with a record end in: k, a and b, and the numbers. Another k, and another a and b, are taken where they are named."""
+    a, b = largest_of(numbers) if largest is None else largest
+    return (len(numbers) if k is None else k, 1), (a, 1), (b, 1), *((i, 2) for i in numbers)
+
+
+def record_of(kind, numbers, k=None, largest=None):
+    """A line of kind 04 or 09."""
+    return hexed((kind, 1), *fields_of(numbers, k, largest))
 
 
 def chain_line(chain, kind=4):
@@ -611,9 +669,25 @@ def tree_lines(chain):
         yield word_line(8, tree_word_of(chain))
 
 
-def run_line(m, x, numbers, k=None):
-    """With another count than there are numbers, where one is named."""
-    return hexed((7, 1), (m, 8), (x, 8), (len(numbers) if k is None else k, 1), *((i, 2) for i in numbers))
+def run_line(m, x, numbers, k=None, largest=None):
+    return hexed((7, 1), (m, 8), (x, 8), *fields_of(numbers, k, largest))
+
+
+def record_lines(numbers, largest=None, k=None):
+    """The same record in kinds 04, 07 and 09."""
+    yield record_of(4, numbers, k, largest)
+    yield run_line(2**63 - 25, 10**18, numbers, k, largest)
+    yield record_of(9, numbers, k, largest)
+
+
+K_AT = {b"04": 2, b"07": 34, b"09": 2}  # by kind, at which digit of a line k stands: a and b follow it
+K_AT_REPLY = 34
+
+
+def without_exponents(line):
+    """A line of kind 04, 07 or 09 as it was before T-06, when a and b did not stand after k."""
+    at = K_AT[line[:2]] + 2
+    return line[:at] + line[at + 4 :]
 
 
 def small_file(most):
@@ -655,17 +729,18 @@ def refused_file():
         for extra in range(0, 22):
             yield hexed((kind, 1)) + b"00" * extra
     # a character that is none against the length of the kind, and against each kind's own refusals
-    for text in (b"01" + b"0" * 10 + b"g0", b"02" + b"0" * 15 + b"G", b"03" + b"0" * 31 + b"`", b"0402FFFFFFF\x00", b"050104" + b"\r0"):
+    for text in (b"01" + b"0" * 10 + b"g0", b"02" + b"0" * 15 + b"G", b"03" + b"0" * 31 + b"`", b"04023F00FFFFFFF\x00", b"050104" + b"\r0"):
         yield text
     # 8 against 9 and 10, 9 against 10
     for numbers in ([1344, 1344], [1343, 1343], [1343, 1344], [0, 1343, 1344], [1343, 1343, 2000], [0, 1343, 1343]):
-        yield hexed((4, 1), (len(numbers), 1), *((i, 2) for i in numbers))
-    for k in (0, 1, 2, 63, 64, 65, 66, 127):
+        yield record_of(4, numbers)
+    # to 126 numbers fit in a line
+    for k in (0, 1, 2, 63, 64, 65, 66, 125, 126, 127):
         for numbers in ([0] * k, [1344] * k, list(range(k, 0, -1)), [65535] + [0] * (k - 1) if k else []):
-            yield hexed((4, 1), (k, 1), *((i, 2) for i in numbers))
-    for k in (128, 200, 255):
-        yield hexed((4, 1), (k, 1)) + b"0000" * 127
-        yield hexed((4, 1), (k, 1)) + b"0000"
+            yield record_of(4, numbers)
+    for k in (127, 128, 200, 255):
+        for there in (126, 127, 1):
+            yield record_of(4, [0] * there, k)
     twos = [(a, 0) for a in range(63, -1, -1)]
     for chain in ([(62, 1), (61, 1)], [(63, 0), (62, 0)], [(62, 1), (61, 0)], twos, twos[:63], [(0, 0), (1, 0)], [(3, 1), (3, 1)]):
         yield chain_line(chain)
@@ -707,30 +782,30 @@ def run_file():
         for m in MODULI:
             for x in residues_at(m):
                 yield run_line(m, x, numbers)
-    # of the right length, with 64 parts and more: to 119 they fit in a line
+    # of the right length, with 64 parts and more: to 118 they fit in a line
     fields = [(2**63, 2**63 - 1), (2**63 - 1, 2**63 - 2), (1, 0)]
     refused_fields = [(0, 0), (2**63 + 1, 2**63), (2**64 - 1, 2**64 - 1), (2**63, 2**63), (3, 4)]
-    for numbers in ([0] * 64, [0] * 65, [*TWOS, 0], [1, *TWOS], [1344] * 65, [0] * 66, [0] * 119, [1344] * 119, [0] * 120):
+    for numbers in ([0] * 64, [0] * 65, [*TWOS, 0], [1, *TWOS], [1344] * 65, [0] * 66, [0] * 118, [1344] * 118, [0] * 119, [0] * 120):
         for m, x in fields + refused_fields:
             yield run_line(m, x, numbers)
     # a count that is one too many or too few, or much too many; the fields are good or refused
-    for k in (0, 1, 2, 41, 63, 64, 65, 118, 119, 120, 127, 128, 255):
-        for there in (k - 1, k + 1, 119):
-            if 0 <= there <= 119 and there != k:
+    for k in (0, 1, 2, 41, 63, 64, 65, 117, 118, 119, 120, 127, 128, 255):
+        for there in (k - 1, k + 1, 118):
+            if 0 <= there <= 118 and there != k:
                 for m, x in fields[1], refused_fields[0], refused_fields[4]:
                     yield run_line(m, x, (TWOS * 2)[:there], k)
-    # a byte too few or too many: with 119 numbers and a byte the line has 514 characters
-    for numbers in ([], [0], TWOS, [0] * 119):
+    # a byte too few or too many: with 118 numbers and a byte, and with 119 without one, the line has 514 characters
+    for numbers in ([], [0], TWOS, [0] * 118, [0] * 119):
         for m, x in fields[1], refused_fields[0], refused_fields[4]:
             yield run_line(m, x, numbers)[:-2]
             yield run_line(m, x, numbers) + b"00"
     # a second byte that would be the right count for kind 04, with the right count and a wrong one for kind 07
-    for k in (0, 1, 2, 64, 119):
+    for k in (0, 1, 2, 64, 118):
         yield run_line((8 + k) * 2**56, 1, (TWOS * 2)[:k])
         yield run_line((8 + k) * 2**56, 1, (TWOS * 2)[:k], k + 1)
     # a character that is none, in each field
     for line in (run_line(2**63 - 1, 2**63 - 2, [9, 0]), run_line(0, 1, [1344]), run_line(0, 1, [1344])[:-2]):
-        for at in (0, 1, 2, 17, 18, 33, 34, 35, 36, len(line) - 1):
+        for at in (0, 1, 2, 17, 18, 33, 34, 35, 36, 37, 38, 39, 40, len(line) - 1):
             yield line[:at] + b"G" + line[at + 1 :]
     # the other kinds' lines as kind 07, and kind 07's as others
     for line in (*LISTING.split(b"\n")[:5], best_line(0, (0, 0, 0), (0, 0, 1, 0)), word_line(6, "3013")):
@@ -778,8 +853,10 @@ def price_lengths():
         for text in (line[:-4], line[:-3], line[:-2], line[:-1], line, line + b"0", line + b"00", line + b"000", line + b"0000"):
             yield text
             yield text[:-1] + b"G"
-    # a line that fits kinds 02 and 07, and one that fitted both while an addition had one price
-    for line in (run_line(2**63 - 1, 0x403F280004000700, [9]), run_line(2**63 - 1, 0x403F280004000700, [])):
+    # lines that fit kinds 02 and 07, with a and b that are right and wrong; then lines that fitted both earlier
+    m, x = 2**63 - 1, 0x403F280004000700
+    fitting = [run_line(m, x, [], largest=largest) for largest in ((0, 0), (0, 9), (9, 0))]
+    for line in (*fitting, *(without_exponents(run_line(m, x, numbers)) for numbers in ([9], []))):
         yield line
         yield b"02" + line[2:]
 
@@ -900,16 +977,102 @@ def tree_records():
     # 8 against 9 and 10, 9 against 10
     for numbers in ([1344, 1344], [1343, 1343], [1343, 1344], [0, 1343, 1344], [1343, 1343, 2000], [0, 1343, 1343], [65535], [256], [0, 0]):
         yield record_of(9, numbers)
-    for k in (1, 2, 40, 41, 63, 64, 65, 66, 127):
+    for k in (1, 2, 40, 41, 63, 64, 65, 66, 126, 127):
         for numbers in ([0] * k, [1344] * k, (TWOS * 2)[:k], (TWOS * 2)[-k:], (THREES * 4)[:k], list(range(k, 0, -1))):
             yield record_of(9, numbers)
-    for numbers, k in itertools.product(([], [0], TWOS, TWOS[1:], [0] * 127), (0, 1, 2, 63, 64, 65, 126, 127, 128, 255)):
+    for numbers, k in itertools.product(([], [0], TWOS, TWOS[1:], [0] * 126), (0, 1, 2, 63, 64, 65, 125, 126, 127, 128, 255)):
         if k != len(numbers):
             yield record_of(9, numbers, k)
     for line in (*LISTING.split(b"\n")[:5], word_line(5, "3203"), word_line(5, "1133"), word_line(6, "3013"), run_line(97, 96, [9, 0])):
         yield from (b"08" + line[2:], b"09" + line[2:])
     for line in (*tree_lines([(1, 2), (0, 0)]), *tree_lines([(1, 1), (0, 0)])):  # 18 + 1 and 6 + 1
         yield from (hexed((kind, 1)) + line[2:] for kind in range(12))
+
+
+def near_exponents(numbers):
+    """Bytes that are not those of a record's first part, but near them or easily taken for them."""
+    right = a, b = largest_of(numbers)
+    chain = [TABLE[i] for i in numbers if i < len(TABLE)]
+    pairs = [(a + i, b + j) for i in (-1, 0, 1) for j in (-1, 0, 1)]
+    pairs += [(b, a), (0, 0), (a, 0), (0, b), (a, a), (b, b), (a, 255), (255, b), (255, 255), (63, 40), (64, 64)]
+    pairs += [(a ^ 2**i, b) for i in range(8)] + [(a, b ^ 2**i) for i in range(8)]
+    # 64 × b + a is the same in these
+    pairs += [(a + 64 * i, b - i) for i in (-3, -2, -1, 1, 2, 3)]
+    # the second part and the smallest; the part's neighbours in the table, its number, and k in front of a
+    pairs += chain[1:2] + chain[-1:]
+    pairs += [TABLE[i + j] for i in numbers[:1] for j in (-1, 1) if 0 <= i + j < len(TABLE)]
+    pairs += [divmod(i, 256) for i in numbers[:1]] + [(len(numbers), a)]
+    # the largest power of two that is at most n
+    pairs.append((max(sum_of(chain).bit_length() - 1, 0), 0))
+    return [pair for pair in dict.fromkeys((x % 256, y % 256) for x, y in pairs) if pair != right]
+
+
+ALONE = [(0, 0), (1, 0), (0, 1), (1, 1), (5, 5), (63, 0), (62, 1), (0, 40), (1, 39), (32, 20), TABLE[1343]]  # taken as chains of one part
+WRONG = [(0, 0), (1, 0), (0, 1), (1, 2), (2, 1), (63, 0), (0, 40), (64, 0), (64, 64), (255, 255)]  # wrong for most records
+# refused as 8, as 9 and as 10
+REFUSED = [[1344], [1344, 0], [65535], [0, 1344], [0] * 65, [1344] * 65, [*TWOS, 0], [0, 0], [0, 1], [1, 2], [1343, 1343], [9, 0, 0]]
+REFUSED += [OVER, [NUMBER[62, 1], NUMBER[62, 0]], [NUMBER[62, 1], *TWOS[1:]]]
+
+
+def exponent_file():
+    """Lines of kinds 04, 07 and 09 with right and wrong bytes after k."""
+    yield from exponents_near()
+    yield from exponents_and_refusals()
+    yield from exponent_lengths()
+    yield from every_part()
+
+
+def exponents_near():
+    """Wrong bytes near the right ones, in all three kinds: no part, one part, and up to 64."""
+    chance = random.Random(16)
+    records = [[], *([NUMBER[p]] for p in ALONE), [9, 0], [NUMBER[63, 0], 0], [NUMBER[3, 2], NUMBER[1, 1]], TWOS, TWOS[1:], THREES]
+    records += [numbers_of(some_chain(n, chance)) for n in (65535, 10**6, 10**18, 2**64 - 2, 2**64 - 1, 3 * 2**62 - 1)]
+    for numbers in records:
+        for largest in (None, *near_exponents(numbers)):
+            yield from record_lines(numbers, largest)
+
+
+def exponents_and_refusals():
+    """Records that are refused as 8, 9 or 10, and moduli as 13 and 14, whatever the bytes are; the empty record, in kind 09 refused as 15."""
+    for numbers, largest in itertools.product(REFUSED, [largest_of(numbers) for numbers in ([1343], OVER)] + WRONG):
+        yield from record_lines(numbers, largest)
+    for m, x in ((0, 0), (0, 1), (2**63 + 1, 0), (2**64 - 1, 2**64 - 1), (1, 1), (2**63, 2**63), (5, 7)):
+        for numbers, largest in itertools.product(([], [0], [9, 0], TWOS, [1344], [0, 1], OVER), WRONG):
+            yield run_line(m, x, numbers, largest=largest)
+    for largest in [*WRONG, *((x, 0) for x in range(2, 12)), *((0, x) for x in range(2, 12)), (0, 255), (255, 0)]:
+        yield from record_lines([], largest)
+
+
+def exponent_lengths():
+    """Lines at their greatest lengths, lines as they were before T-06, and lines with bytes, digits and numbers more or less."""
+    for numbers in ([], [0], [9, 0], TWOS, *([0] * k for k in (65, 117, 118, 119, 120, 125, 126, 127))):
+        for line in record_lines(numbers):
+            at = K_AT[line[:2]] + 2
+            a, b = line[at : at + 2], line[at + 2 : at + 4]
+            head, rest = line[:at], line[at + 4 :]
+            # as it is and as it was; one byte, a byte twice, and both bytes twice
+            yield from (line, head + rest, head + a + rest, head + b + rest, head + a + a + b + rest, head + a + b + a + b + rest)
+            # behind the numbers, and in front of k
+            yield from (head + rest + a + b, head[:-2] + a + b + head[-2:] + rest)
+            yield from (line[:-2], line[:-1], line + b"0", line + b"00", line + a + b)
+            # cut behind k, behind a and behind b
+            yield from (head, head + a, head + a + b)
+            if len(line) <= 514:
+                yield from (line[:i] + bad + line[i + 1 :] for i in range(at, at + 4) for bad in (b"G", b" ", b"g"))
+    # a count that is not that of the numbers: as it was before T-06, with one number less, the first number stands where a and b do now
+    for numbers in ([], [0], [0, 0], [258, 9, 0], [9, 0], TWOS, [1344, 0], [65535, 0]):
+        for k in (len(numbers) - 1, len(numbers) + 1, len(numbers) + 2):
+            for line in record_lines(numbers, k=k % 256):
+                yield from (line, without_exponents(line))
+
+
+def every_part():
+    """Each part as a chain by itself: with its bytes, with these exchanged, and in kind 04 with those of its neighbours in the table."""
+    for i, (a, b) in enumerate(TABLE):
+        yield from record_lines([i])
+        if a != b:
+            yield from record_lines([i], (b, a))
+        yield from (record_of(4, [i], largest=TABLE[j]) for j in (i - 1, i + 1) if 0 <= j < len(TABLE))
 
 
 KINDS = (1, 1, 1, 2, 3, 3, 3, 4, 4, 4, 5, 5, 6, 6)  # as often as they are drawn
@@ -927,11 +1090,16 @@ def some_lines(seed, times, kinds=ALL_KINDS):
         n = number()
         return word_at(n, chance.randrange(count(n)))
 
+    def some_exponents(numbers):
+        """Now and then bytes that are not those of the largest part."""
+        return chance.choice(near_exponents(numbers)) if chance.randrange(8) == 0 else None
+
     def some_run(numbers):
         """These numbers, run. Now and then the modulus, x or the numbers are taken from the edges, where they may be refused."""
         m = chance.choice(MODULI) if chance.randrange(5) == 0 else chance.randrange(2 ** chance.choice((8, 32, 62, 63, 63, 63))) + 1
         x = chance.choice(residues_at(m)) if chance.randrange(5) == 0 else chance.randrange(m or 1)
-        return run_line(m, x, chance.choice(RECORDS) if chance.randrange(10) == 0 else numbers)
+        numbers = chance.choice(RECORDS) if chance.randrange(10) == 0 else numbers
+        return run_line(m, x, numbers, largest=some_exponents(numbers))
 
     def some_tree(chain):
         """The chain's tree word, or now and then one that is nearly it."""
@@ -949,14 +1117,15 @@ def some_lines(seed, times, kinds=ALL_KINDS):
         if kind == 3:
             return hexed((3, 1), (n, 8), (chance.randrange(count(n) + 2), 8))
         word = some_word()
-        if kind == 7:
-            return some_run(numbers_of(chain_of(word)))
+        if kind in (5, 6):
+            return word_line(kind, word)
         if kind == 8:
             return word_line(8, some_tree(chain_of(word)))
-        return chain_line(chain_of(word), kind) if kind in (4, 9) else word_line(kind, word)
+        numbers = numbers_of(chain_of(word))
+        return some_run(numbers) if kind == 7 else record_of(kind, numbers, largest=some_exponents(numbers))
 
     def damaged(text):
-        way, at = chance.randrange(6), chance.randrange(len(text))
+        way, at = chance.randrange(7), chance.randrange(len(text))
         if way == 0:
             return text[:at] + bytes([chance.choice(b"0123456789ABCDEF")]) + text[at + 1 :]
         if way == 1:
@@ -967,8 +1136,8 @@ def some_lines(seed, times, kinds=ALL_KINDS):
             return text[: 2 * (at // 2)] + text[2 * (at // 2) + 2 :]
         if way == 4:
             return text + text[: chance.randrange(len(text))]
-        # the byte that counts what follows, in the kinds that have one
-        at = 34 if text[:2] == b"07" else 2
+        # the byte that counts what follows, in the kinds that have one; or one of the two bytes behind it
+        at = K_AT.get(text[:2], 2) + (0 if way == 5 else chance.choice((2, 4)))
         return text[:at] + hexed((chance.getrandbits(8), 1)) + text[at + 2 :]
 
     for _ in range(times):
@@ -988,7 +1157,8 @@ def cased_file():
     runs = [*itertools.islice(run_file(), 0, None, 4), *some_lines(6, 100, [7])]
     priced = itertools.islice(price_file(), 0, None, 4)
     trees = [*tree_records(), *some_lines(9, 100, [8, 9])]
-    for line in [*some_lines(5, 400, KINDS), *refused_file(), *last, *runs, *priced, *trees]:
+    bytes_after_k = itertools.islice(exponent_file(), 0, None, 13)
+    for line in [*some_lines(5, 400, KINDS), *refused_file(), *last, *runs, *priced, *trees, *bytes_after_k]:
         if re.search(rb"[A-F]", line):
             yield from (line.upper(), line.lower(), recased(line, chance))
 
@@ -1004,18 +1174,35 @@ def with_price_twice(file):
     return b"".join(line + line[-4:] + b"\n" for line in lines_of(file))
 
 
+def put_exponents(text, at):
+    """A line or reply from before T-06 that has k at this digit and the part numbers behind it: a and b are put in between."""
+    k, first = int(text[at : at + 2], 16), text[at + 2 : at + 6]
+    a, b = largest_of([int(first, 16)] if k else [])
+    return text[: at + 2] + hexed((a, 1), (b, 1)) + text[at + 2 :]
+
+
+def with_exponents(name):
+    """Lines that were stored before T-06 and the replies that were stored with them, as two files: a and b are put in where T-06 asks for them."""
+    file, told = b"", b""
+    for line, reply in zip(lines_of(stored(name + "_lines")), lines_of(stored(name + "_replies")), strict=True):
+        file += (put_exponents(line, K_AT[line[:2]]) if line[:2] in K_AT else line) + b"\n"
+        # a refusal has no chain, nor has a count, a residue or a tree word
+        told += (reply if len(reply) == 2 or line[:2] in (b"01", b"07", b"09") else put_exponents(reply, K_AT_REPLY)) + b"\n"
+    return file, told
+
+
 LISTING = b"""010000000000000013
 020000000000000013023F280004000700090009
 03000000000000001B0000000000000006
 020000000000000005013F280004000700090009
-040200090000
+0402010200090000
 7F
 """
 REPLIES = """000000000000000004
-000000000000000013000000000000000302000900000000001B
-00000000000000001B000000000000000601000B
+0000000000000000130000000000000003020102000900000000001B
+00000000000000001B0000000000000006010003000B
 05
-00000000000000001300000000000000030200090000
+000000000000000013000000000000000302010200090000
 04
 """
 
@@ -1025,6 +1212,18 @@ WHATS = {}
 def what(f):
     WHATS[f.__name__.replace("_", "-")] = f
     return f
+
+
+@what
+def intake_stdin():
+    """Document 01's listing, with the changes that T-04 and T-06 make to it."""
+    return LISTING
+
+
+@what
+def intake():
+    """The replies to it."""
+    return answer(LISTING)
 
 
 @what
@@ -1245,7 +1444,7 @@ def listed_best(entries, limits, prices):
     most, most_a, most_b = limits
     fitting = []
     for i, (_, c) in enumerate(entries):
-        a, b = c[0] if c else (0, 0)
+        a, b = exponents(c)
         if not c or (len(c) <= most and a <= most_a and b <= most_b):
             fitting.append((len(c), price_of(c, *prices), i, c))
     return min(fitting) if fitting else None
@@ -1268,7 +1467,7 @@ def told(found):
 def around_line(n, i, free, prices):
     """Limits one below, at and one above what the best needs: on parts all three, on doublings and triplings one in turn."""
     position, k, _, points = free
-    a, b = points[0] if points else (0, 0)
+    a, b = exponents(points)
     text = ""
     for at, limit in (0, k - 1), (0, k), (0, k + 1), (1, a - 1 + i % 3), (2, b - 1 + i // 3 % 3):
         limits = tuple(max(limit, 0) if j == at else 255 for j in range(3))
@@ -1340,15 +1539,16 @@ def sum_or_dash(*values):
 
 @what
 def test_parts():
-    """The part table with exponents and numbers; numbers at its edges; sums that just fit and just do not."""
+    """The part table with exponents, numbers and the numbers' exponents; its edges and past them; sums that just fit and just do not."""
     for i, (a, b) in enumerate(TABLE):
-        yield f"{i} {VALUE[a, b]} {a} {b} {number_or_dash(a, b)}"
+        yield f"{i} {VALUE[a, b]} {a} {b} {number_or_dash(a, b)} {a} {b}"
     yield str(max(VALUE.values()))
     top = LIMIT - 1
     edges = "63,0 64,0 62,1 63,1 32,20 33,20 40,20 0,40 1,40 0,41 2,39 3,39"
     points = [tuple(map(int, e.split(","))) for e in edges.split()] + [(top, 0), (0, top), (top, top)]
     for a, b in points:
         yield f"{a} {b} {number_or_dash(a, b)}"
+    yield from ["0 0"] * 3
     powers = [2**a for a in range(64)]
     yield sum_or_dash()
     yield sum_or_dash(*powers)
@@ -1363,13 +1563,14 @@ def test_parts():
 @what
 @functools.cache
 def lines():
-    """Every kind for all numbers to 200; refusals; prices; both cases; random and damaged lines; empty lines; a last line without byte 10.
+    """Every kind for all numbers to 200; refusals; prices; tree words; bytes after k; both cases; random and damaged lines; empty lines; a last
+    line without byte 10.
 
-    Lines of kind 07, and those of kinds 08 and 09, are drawn apart, so that the random lines of the other kinds stay as they were.
+    Lines of kind 07, and those of kinds 08 and 09, are drawn apart, so that the random lines of the other kinds do not depend on them.
     """
     drawn = [*some_lines(1, 20000, KINDS), *some_lines(7, 800, [7]), *some_lines(8, 800, [8, 9])]
     some = [b"", b"", *drawn, b"", LISTING.split(b"\n")[0]]
-    return b"\n".join([*small_file(200), *refused_file(), *run_file(), *price_file(), *tree_file(), *cased_file(), *some])
+    return b"\n".join([*small_file(200), *refused_file(), *run_file(), *price_file(), *tree_file(), *exponent_file(), *cased_file(), *some])
 
 
 @what

@@ -35,7 +35,8 @@
 #define MELTSJUK_STACK 32768     /* a thread with so many bytes of stack can make any of the calls */
 
 /* The answers of the functions but meltsjuk_reply; at each function stands which of them it gives. meltsjuk_reply answers
- * MELTSJUK_LITTLE_LENT too, and otherwise a length. */
+ * MELTSJUK_LITTLE_LENT too, and otherwise a length. Refusal 16, for a and b that are not those of the largest part, is for lines
+ * alone: the other functions take and tell chains without a and b. */
 #define MELTSJUK_SERVED 0        /* the answer stands where the caller asked for it */
 #define MELTSJUK_LITTLE_LENT 1   /* too little is lent, and nothing was written */
 #define MELTSJUK_NONE_FITS 5     /* no chain is within the limits */
@@ -55,8 +56,9 @@ extern "C" {
  *
  * Lent: the line; the scratch, MELTSJUK_SCRATCH numbers or more; `out`, MELTSJUK_REPLY bytes or more.
  * Answers how many digits the reply has, at least 2 and at most 512. They stand in `out`, then zeros up to MELTSJUK_REPLY, so that
- * the digits are a C string, and later bytes are as they were. A refused line's reply is the two digits of its number: 02 to 0B, or
- * 0D to 0F.
+ * the digits are a C string, and later bytes are as they were. A refused line's reply is its number as two hexadecimal digits: 02 to
+ * 0B, or 0D to 10. docs/LINES.md shows all lines and replies. A chain stands there as k, a and b of its largest part 2^a * 3^b, and
+ * its k part numbers.
  * Answers MELTSJUK_LITTLE_LENT, which is no length, where the scratch or `out` is too short; then nothing was written. */
 uint64_t meltsjuk_reply(const uint8_t *line, size_t line_length, uint64_t *scratch, size_t scratch_length, uint8_t *out,
                         size_t out_length);

@@ -2,7 +2,8 @@
  *
  * Without an argument: the reply to each line of standard input, a line each, as the program `intake` writes them.
  * With the argument `calls`: the same for lines of kinds 01, 02, 07, 08 and 09 of the right length, by the calls for the count, the
- * best chain, the run of a chain and the two for tree words, whose answers are written here as replies.
+ * best chain, the run of a chain and the two for tree words, whose answers are written here as replies. The calls take and tell
+ * chains without a and b of the largest part. So these are passed over in a line, and for a reply they are looked up.
  *
  * Every call is made on a thread with a stack of MELTSJUK_STACK bytes. The page below the stack must not be touched: a call that
  * needs more stack ends the program by a signal.
@@ -24,6 +25,7 @@
 #include <sys/types.h>
 #include <unistd.h>
 
+#define PARTS 1344 /* so many parts are below 2^64 */
 #define LATER 3 /* so many places are lent beyond those asked for; they must be as they were */
 
 /* A scratch to lend. */
@@ -32,9 +34,16 @@ struct scratch {
     size_t length;
 };
 
+/* A part 2^a * 3^b below 2^64. */
+struct part {
+    uint64_t value;
+    unsigned a, b;
+};
+
 static struct scratch shorter, exact, longer, large;
 static uint16_t *places, *more_places; /* MELTSJUK_PLACES of them, and LATER more */
 static uint8_t *tree_places, *more_tree_places; /* MELTSJUK_TREE_PLACES of them, and LATER more */
+static struct part parts_by_number[PARTS];
 static uint16_t numbers[255]; /* a line tells in one byte how many part numbers it has */
 static uint8_t letters[255]; /* or how many letters */
 static uint8_t out[MELTSJUK_REPLY];
@@ -88,6 +97,36 @@ static void make_memory(void)
     more_places = fenced((MELTSJUK_PLACES + LATER) * sizeof(uint16_t));
     tree_places = fenced(MELTSJUK_TREE_PLACES);
     more_tree_places = fenced(MELTSJUK_TREE_PLACES + LATER);
+}
+
+static int by_value(const void *x, const void *y)
+{
+    const struct part *p = x, *q = y;
+
+    return p->value < q->value ? -1 : p->value > q->value;
+}
+
+static void make_parts(void)
+{
+    struct part p = {1, 0, 0};
+    size_t found = 0;
+
+    for (;;) { /* up in a, and then up in b with a from 0 */
+        parts_by_number[found++] = p;
+        if (p.value <= UINT64_MAX / 2) {
+            p.value *= 2;
+            p.a++;
+        } else {
+            p.value >>= p.a;
+            p.a = 0;
+            if (p.value > UINT64_MAX / 3)
+                break;
+            p.value *= 3;
+            p.b++;
+        }
+    }
+    must(found == PARTS, "there are 1344 parts");
+    qsort(parts_by_number, found, sizeof *parts_by_number, by_value);
 }
 
 /* The scratch for a line: the least that is served for most lines. */
@@ -196,6 +235,7 @@ static void *served(void *scratch)
 {
     const struct scratch s = *(const struct scratch *)scratch;
     const uint8_t line[18] = "010000000000000013";
+    const uint8_t record[16] = "0402010200090000"; /* 18 = 2^1 * 3^2 */
     const uint16_t parts[2] = {9, 0}; /* 18 + 1 */
     uint64_t count = 7, position = 7, k = 7, price = 7;
 
@@ -203,6 +243,11 @@ static void *served(void *scratch)
     must(meltsjuk_reply(line, 18, s.numbers, s.length, out, MELTSJUK_REPLY) == 18, "a reply with the count of 19");
     must(strcmp((const char *)out, "000000000000000004") == 0 && is_all(out + 18, MELTSJUK_REPLY - 18, 0), "what a reply leaves");
     must(is_left(s, MELTSJUK_SCRATCH), "what a reply leaves in the scratch");
+    set_bits(s);
+    must(meltsjuk_reply(record, 16, s.numbers, s.length, out, MELTSJUK_REPLY) == 48, "a reply to the record of 18 + 1");
+    must(strcmp((const char *)out, "000000000000000013000000000000000302010200090000") == 0
+             && is_all(out + 48, MELTSJUK_REPLY - 48, 0) && is_left(s, MELTSJUK_SCRATCH),
+         "what a reply to a record leaves");
     set_bits(s);
     must(meltsjuk_count(19, s.numbers, s.length, &count) == MELTSJUK_SERVED && count == 4, "the count of 19");
     must(is_left(s, MELTSJUK_SCRATCH), "what a count leaves in the scratch");
@@ -277,15 +322,21 @@ static void *served_trees(void *scratch)
     return NULL;
 }
 
-/* A line of no kind, and limits that no chain is within, with this scratch: it is zeroed as where they are served. */
+/* A line of no kind, a record with a and b of another part, and limits that no chain is within, with this scratch: it is zeroed as
+ * where they are served. */
 static void *refused(void *scratch)
 {
     const struct scratch s = *(const struct scratch *)scratch;
+    const uint8_t record[16] = "0402020100090000"; /* 18 = 2^1 * 3^2, and 12 = 2^2 * 3^1 */
     uint64_t position = 7, k = 7, price = 7;
 
     set_bits(s);
     must(meltsjuk_reply((const uint8_t *)"7F", 2, s.numbers, s.length, out, MELTSJUK_REPLY) == 2, "a reply to a line of no kind");
     must(strcmp((const char *)out, "04") == 0 && is_left(s, MELTSJUK_SCRATCH), "what is left where a line is refused");
+    set_bits(s);
+    must(meltsjuk_reply(record, 16, s.numbers, s.length, out, MELTSJUK_REPLY) == 2, "a reply to a record with a and b of 12");
+    must(strcmp((const char *)out, "10") == 0 && is_all(out + 2, MELTSJUK_REPLY - 2, 0) && is_left(s, MELTSJUK_SCRATCH),
+         "what is left where a record is refused");
     set_bits(s);
     must(meltsjuk_best(5, 1, 63, 40, 4, 7, 8, 9, s.numbers, s.length, places, MELTSJUK_PLACES, &position, &k, &price)
              == MELTSJUK_NONE_FITS,
@@ -458,25 +509,37 @@ static void reply_by_count(struct request *r)
     printf("00%016" PRIX64 "\n", r->count);
 }
 
+/* Writes the chain in the places as replies have it: n, position, k, a and b of the largest part, the part numbers. */
+static void print_chain(uint64_t n, const struct request *r)
+{
+    struct part largest = {0, 0, 0};
+
+    if (r->k > 0) {
+        must(places[0] < PARTS, "a number that no part has");
+        largest = parts_by_number[places[0]];
+    }
+    printf("%016" PRIX64 "%016" PRIX64 "%02X%02X%02X", n, r->position, (unsigned)r->k, largest.a, largest.b);
+    for (uint64_t i = 0; i < r->k; i++)
+        printf("%04X", places[i]);
+}
+
 static void reply_by_best(struct request *r)
 {
     with_scratch(call_best, r);
     printf("%02X", r->status);
     if (r->status == MELTSJUK_SERVED) {
-        printf("%016" PRIX64 "%016" PRIX64 "%02X", field(r->line, 1, 8), r->position, (unsigned)r->k);
-        for (uint64_t i = 0; i < r->k; i++)
-            printf("%04X", places[i]);
+        print_chain(field(r->line, 1, 8), r);
         printf("%08" PRIX64, r->price);
     }
     printf("\n");
 }
 
-/* Takes the part numbers of a line; byte `at` says how many they are. */
+/* Takes the part numbers of a line; byte `at` says how many they are, and a and b come between. */
 static void take_numbers(struct request *r, size_t at)
 {
     r->items = (size_t)field(r->line, at, 1);
     for (size_t i = 0; i < r->items; i++)
-        numbers[i] = (uint16_t)field(r->line, at + 1 + 2 * i, 2);
+        numbers[i] = (uint16_t)field(r->line, at + 3 + 2 * i, 2);
 }
 
 static void reply_by_run(struct request *r)
@@ -502,9 +565,7 @@ static void reply_by_read_tree(struct request *r)
     printf("%02X", r->status);
     if (r->status == MELTSJUK_SERVED) {
         must(r->k <= MELTSJUK_PLACES && are_parts(places, places, (size_t)r->k, 0), "no zeros after the parts of a tree word");
-        printf("%016" PRIX64 "%016" PRIX64 "%02X", r->n, r->position, (unsigned)r->k);
-        for (uint64_t i = 0; i < r->k; i++)
-            printf("%04X", places[i]);
+        print_chain(r->n, r);
     } else {
         must((r->n & r->position & r->k) == UINT64_MAX && are_untouched(), "something written although the line was refused");
     }
@@ -535,11 +596,11 @@ static void reply_by_call(struct request *r)
         reply_by_count(r);
     else if (r->length == 40 && strncmp(r->line, "02", 2) == 0)
         reply_by_best(r);
-    else if (r->length >= 36 && r->length == 36 + 4 * field(r->line, 17, 1) && strncmp(r->line, "07", 2) == 0)
+    else if (r->length >= 40 && r->length == 40 + 4 * field(r->line, 17, 1) && strncmp(r->line, "07", 2) == 0)
         reply_by_run(r);
     else if (r->length >= 4 && r->length == 4 + 2 * field(r->line, 1, 1) && strncmp(r->line, "08", 2) == 0)
         reply_by_read_tree(r);
-    else if (r->length >= 4 && r->length == 4 + 4 * field(r->line, 1, 1) && strncmp(r->line, "09", 2) == 0)
+    else if (r->length >= 8 && r->length == 8 + 4 * field(r->line, 1, 1) && strncmp(r->line, "09", 2) == 0)
         reply_by_write_tree(r);
     else
         must(0, "a line that no call serves");
@@ -575,6 +636,7 @@ int main(int argc, char **argv)
 
     make_small();
     make_memory();
+    make_parts();
     while ((got = getline(&line, &room, stdin)) > 0) {
         struct request r = {.line = line, .length = (size_t)got, .scratch = scratch_for(lines++)};
 

@@ -18,6 +18,11 @@ def points_in(numbers):
     return [PARTS[int(numbers[i : i + 4], 16)][1:] for i in range(len(numbers) - 4, -1, -4)]
 
 
+def points_of(reply):
+    """The same for the chain in a reply without a price. Before the part numbers stand 00, n, position, k, a and b."""
+    return points_in(reply[40:])
+
+
 def walk(parts):
     """The points of the walk through the parts, smallest first, and the letters that they give: up in b before up in a."""
     a = b = 0

@@ -2,9 +2,11 @@
 //!
 //! Without an argument: the reply to each line of standard input, a line each, as the program `intake` writes them.
 //! With the argument `calls`: the same for lines of kinds 01, 02, 07, 08 and 09 of the right length, by the calls for the count,
-//! the best chain, the run of a chain and the two for tree words, whose answers are written here as replies.
+//! the best chain, the run of a chain and the two for tree words, whose answers are written here as replies. The calls take and tell
+//! chains without a and b of the largest part. So these are passed over in a line, and for a reply they are looked up.
 use meltsjuk::{Limits, Prices, Terminal};
 use std::io::{self, BufRead, Write};
+use std::sync::OnceLock;
 
 /// The value of `bytes` bytes of a line, from byte `at` on.
 fn field(line: &[u8], at: usize, bytes: usize) -> u64 {
@@ -24,19 +26,32 @@ fn reply_by_best(terminal: &mut Terminal, line: &[u8]) -> String {
     let prices = Prices { doubling: pair(12), tripling: pair(14), addition_2: pair(16), addition_3: pair(18) };
     match terminal.best(n, limits, prices) {
         None => "05".to_string(),
-        Some(best) => {
-            format!("00{n:016X}{:016X}{:02X}{}{:08X}", best.position, best.parts.len(), digits_of(&best.parts), best.price)
-        }
+        Some(best) => format!("00{n:016X}{:016X}{}{:08X}", best.position, record_of(&best.parts), best.price),
     }
 }
 
-fn digits_of(parts: &[u16]) -> String {
-    parts.iter().map(|number| format!("{number:04X}")).collect()
+/// a and b of each part 2^a × 3^b, by part number.
+fn exponents() -> &'static [(u32, u32)] {
+    static TABLE: OnceLock<Vec<(u32, u32)>> = OnceLock::new();
+    TABLE.get_or_init(|| {
+        let points = (0..64).flat_map(|a| (0..41).map(move |b| (a, b)));
+        let mut parts: Vec<_> = points.map(|(a, b)| (2u128.pow(a) * 3u128.pow(b), (a, b))).collect();
+        parts.retain(|part| part.0 < 1 << 64);
+        parts.sort();
+        parts.into_iter().map(|part| part.1).collect()
+    })
 }
 
-/// The part numbers of a line; byte `at` says how many they are.
+/// A chain as lines and replies have it: k, a and b of the largest part, the part numbers.
+fn record_of(parts: &[u16]) -> String {
+    let (a, b) = parts.first().map_or((0, 0), |&number| exponents()[number as usize]);
+    let numbers: String = parts.iter().map(|number| format!("{number:04X}")).collect();
+    format!("{:02X}{a:02X}{b:02X}{numbers}", parts.len())
+}
+
+/// The part numbers of a line; byte `at` says how many they are, and a and b come between.
 fn parts_in(line: &[u8], at: usize) -> Vec<u16> {
-    (0..field(line, at, 1) as usize).map(|i| field(line, at + 1 + 2 * i, 2) as u16).collect()
+    (0..field(line, at, 1) as usize).map(|i| field(line, at + 3 + 2 * i, 2) as u16).collect()
 }
 
 fn reply_by_run(line: &[u8]) -> String {
@@ -49,7 +64,7 @@ fn reply_by_run(line: &[u8]) -> String {
 fn reply_by_read_tree(terminal: &mut Terminal, line: &[u8]) -> String {
     let letters: Vec<u8> = (0..field(line, 1, 1) as usize).map(|i| field(line, 2 + i, 1) as u8).collect();
     match terminal.read_tree(&letters) {
-        Ok(chain) => format!("00{:016X}{:016X}{:02X}{}", chain.n, chain.position, chain.parts.len(), digits_of(&chain.parts)),
+        Ok(chain) => format!("00{:016X}{:016X}{}", chain.n, chain.position, record_of(&chain.parts)),
         Err(refusal) => format!("{:02X}", refusal as u8),
     }
 }
@@ -68,9 +83,9 @@ fn reply_by_call(terminal: &mut Terminal, line: &[u8]) -> String {
     match (line.len(), &line[..2]) {
         (18, b"01") => reply_by_count(terminal, line),
         (40, b"02") => reply_by_best(terminal, line),
-        (36.., b"07") if line.len() == 36 + 4 * field(line, 17, 1) as usize => reply_by_run(line),
+        (40.., b"07") if line.len() == 40 + 4 * field(line, 17, 1) as usize => reply_by_run(line),
         (4.., b"08") if line.len() == 4 + 2 * field(line, 1, 1) as usize => reply_by_read_tree(terminal, line),
-        (4.., b"09") if line.len() == 4 + 4 * field(line, 1, 1) as usize => reply_by_write_tree(line),
+        (8.., b"09") if line.len() == 8 + 4 * field(line, 1, 1) as usize => reply_by_write_tree(line),
         _ => panic!("a line that no call serves"),
     }
 }

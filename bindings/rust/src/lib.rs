@@ -132,7 +132,8 @@ pub struct Chain {
     pub parts: Vec<u16>,
 }
 
-/// Why a chain is not run, or a tree word not read or written. `refusal as u8` is its number.
+/// Why a chain is not run, or a tree word not read or written. `refusal as u8` is its number. Lines have further refusals, which
+/// [`Terminal::reply`] gives as digits.
 #[derive(Clone, Copy, Debug, PartialEq, Eq)]
 pub enum Refusal {
     /// A part number is 1,344 or more, or there are more than 64 part numbers.
@@ -251,12 +252,15 @@ impl Terminal {
     }
 
     /// The reply to one line, given without its byte 10: digits. A line that cannot be served gets the two digits of its refusal. The line
-    /// may have capitals A to F and small letters a to f; the reply has capitals.
+    /// may have capitals A to F and small letters a to f; the reply has capitals. In lines and replies a chain stands as k, a and b of its
+    /// largest part 2^a × 3^b, and its k part numbers; the other calls take and tell part numbers alone.
     ///
     /// ```
     /// let mut terminal = meltsjuk::Terminal::new();
-    /// assert_eq!(terminal.reply(b"040200090000"), "00000000000000001300000000000000030200090000");
-    /// assert_eq!(terminal.reply(b"0401000b"), "00000000000000001B000000000000000601000B");
+    /// // 18 + 1 is the chain of 19 at position 3; 18 is 2^1 × 3^2
+    /// assert_eq!(terminal.reply(b"0402010200090000"), "000000000000000013000000000000000302010200090000");
+    /// assert_eq!(terminal.reply(b"04010003000b"), "00000000000000001B0000000000000006010003000B"); // 27 is 2^0 × 3^3
+    /// assert_eq!(terminal.reply(b"0402020100090000"), "10"); // a and b are not those of 18
     /// assert_eq!(terminal.reply(b"7F"), "04");
     /// ```
     pub fn reply(&mut self, line: &[u8]) -> &str {

@@ -22,7 +22,7 @@ use Rattle.digits.specs.Digits.{digitsOf}
 use Rattle.lines.specs.Kinds.{best-line}
 use Rattle.lines.specs.Lines.{field, fit, shapeOf}
 use Rattle.lines.specs.LineLaws.{field-below}
-use Rattle.frames.specs.ReplyDigits.{chainDigits, pricedDigits, headBytes}
+use Rattle.frames.specs.ReplyDigits.{chainDigits, pricedDigits, numbersAt}
 use Rattle.frames.specs.ReadBack.{ChainRead, price-read}
 use Rattle.frames.specs.Replies.{refusedAs, servedWith, pricedReply, limitsIn, pricesIn, served, replyTo}
 use Rattle.frames.specs.ServedLaws.{best-number, best-five, number-low}
@@ -100,7 +100,7 @@ prices-cheap line =
 
 module _ (line ds : List ℕ) (b : BestReply line ds) where
   pub best-read : ChainRead (field line 1 8) (position (field line 1 8) (b .chain)) (map partNumber (b .chain)) ds
-      × (field ds (headBytes + 2 * length (map partNumber (b .chain))) 4 ≡ price (pricesIn line) (b .chain))
+      × (field ds (numbersAt + 2 * length (map partNumber (b .chain))) 4 ≡ price (pricesIn line) (b .chain))
   unfolding pricedDigits
   best-read =
       let n = field line 1 8 in

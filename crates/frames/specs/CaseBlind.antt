@@ -13,7 +13,7 @@ use Rattle.lines.specs.Kinds.{Kind, count-line, best-line, at-line, record-line
 use Rattle.lines.specs.Kinds.{tree-line, to-tree-line}
 use Rattle.lines.specs.Lines.{Shape, unfit, fit, shapeOf}
 use Rattle.lines.specs.CapitalLaws.{field-of-capitals, items-of-capitals, shape-of-capitals}
-use Rattle.frames.specs.Replies.{digitsIn, limitsIn, pricesIn, served, replyByShape, replyTo, replyOf, repliedOf}
+use Rattle.frames.specs.Replies.{digitsIn, limitsIn, pricesIn, exponentsFrom, served, replyByShape, replyTo, replyOf, repliedOf}
 use Rattle.frames.specs.Replies.{answerTo, outLeft}
 use Rattle.frames.specs.ReplyLaws.{reply-frame}
 
@@ -21,16 +21,16 @@ use Rattle.frames.specs.ReplyLaws.{reply-frame}
 
 -- What a line of each kind asks for.
 served-of-capitals : (k : Kind) (line : List ℕ) → served k (capitals line) ≡ served k line
-unfolding served limitsIn pricesIn
+unfolding served limitsIn pricesIn exponentsFrom
 served-of-capitals count-line line = simp (field-of-capitals line)
 served-of-capitals best-line line = simp (field-of-capitals line)
 served-of-capitals at-line line = simp (field-of-capitals line)
-served-of-capitals record-line line = simp (items-of-capitals line)
+served-of-capitals record-line line = simp (items-of-capitals line, field-of-capitals line)
 served-of-capitals word-line line = simp (items-of-capitals line)
 served-of-capitals next-line line = simp (items-of-capitals line)
 served-of-capitals run-line line = simp (items-of-capitals line, field-of-capitals line)
 served-of-capitals tree-line line = simp (items-of-capitals line)
-served-of-capitals to-tree-line line = simp (items-of-capitals line)
+served-of-capitals to-tree-line line = simp (items-of-capitals line, field-of-capitals line)
 
 -- A line and the same line with its small letters a to f as capitals get the same reply, and it has the same digits.
 pub case-blind : (line : List ℕ) → replyTo (capitals line) ≡ replyTo line

@@ -1,5 +1,6 @@
 -- Lines of kind 02 as they were before T-04 (document 02), with one price for an addition. Such a line has 18 bytes, and now gets 2
--- (`earlier-refused`). With its s written twice it gets the reply that it got then (`s-twice-reply`).
+-- (`earlier-refused`). With its s written twice it gets the reply that it got then (`s-twice-reply`), in which a and b of the largest
+-- part stand since T-06.
 --
 -- In this order: the definitions, for these laws alone; a line with the same s2 and s3 (`one-price-reply`); an earlier line.
 use mathlib.Core.Path.{_≡_, refl, sym, ap, _∙_}
@@ -34,7 +35,7 @@ pub record EarlierLine (line : List ℕ) : Type 0 where
 abbrev pub earlierCost : List ℕ → List Part → ℕ
 earlierCost line = earlierPrice (field line 12 2) (field line 14 2) (field line 16 2)
 
--- The reply that the line got.
+-- The reply that the line got, with a and b of the largest part.
 abbrev pub earlierReply : List ℕ → Reply
 earlierReply line = pricedReply (earlierCost line) (bestOutcome (field line 1 8) (limitsIn line) (earlierCost line))
 

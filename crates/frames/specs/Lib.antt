@@ -9,6 +9,7 @@
 --   LineTrips    demand 2, line by line
 --   BestLines    demand 3, line by line
 --   EarlierLines  lines of kind 02 with one price for an addition: refused now, and what they get with that price twice
+--   RecordLines  lines with a record: a and b of its largest part after k, and refusal 16; lines of kind 04
 --   RunLines     lines of kind 07: the residue is n × x modulo m, for the chain of any reply too
 --   TreeLines    lines of kinds 08 and 09: the tree word of any chain of n, n at least 1, and back
 --   Put, Calls   what the functions inside this crate ask for and leave; PutLaws is the theory of digits put one after the other
@@ -23,6 +24,7 @@ pub mod CaseBlind
 pub mod LineTrips
 pub mod BestLines
 pub mod EarlierLines
+pub mod RecordLines
 pub mod RunLines
 pub mod TreeLines
 pub mod Put

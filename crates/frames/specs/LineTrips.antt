@@ -13,14 +13,16 @@ use Prim.Native.Nat.{ℕ, _+_, _*_, _^_, _≤_, _<_}
 use native.Mathlib.Nat.{mul-assoc, add-zero}
 use native.Mathlib.Omega.{arith}
 use lib.Dec.{T}
-use lib.ListN.{length, length-map, length-append}
+use lib.ListN.{length, drop, length-map, length-append}
+use lib.Seq.{drop-append-add}
 use Rattle.chains.specs.Chains.{Part, ChainOf}
 use Rattle.chains.specs.Words.{Word, wordOf, Good, Spelled, reads}
 use Rattle.chains.specs.Listing.{count, position}
 use Rattle.chains.specs.Readers.{readers-good}
 use Rattle.chains.specs.RoundTrip.{word-reads}
 use Rattle.chains.specs.Bounds.{word-bound, parts-bound}
-use Rattle.parts.specs.Parts.{partNumber}
+use Rattle.parts.specs.Parts.{partNumber, largestOf}
+use Rattle.parts.specs.Largest.{same-part}
 use Rattle.ranking.specs.Services.{Outcome, refused, gives, atPosition, ofWord, nextOf, ofRecord}
 use Rattle.ranking.specs.Outcomes.{at-past, at-chain, of-chain, next-below, next-last, record-chain}
 use Rattle.digits.specs.Digits.{isDigit, every, allDigits, digitsOf}
@@ -28,10 +30,12 @@ use Rattle.digits.specs.DigitLaws.{every-append, length-digits, allDigits-digit
 use Rattle.lines.specs.Kinds.{Kind, at-line, record-line, word-line, next-line, rowOf, kindOf}
 use Rattle.lines.specs.Lines.{field, fields, countIn, bytesIn, itemsIn, Fit}
 use Rattle.lines.specs.LineLaws.{line-fit, kind-byte, row-small}
-use Rattle.frames.specs.ReplyDigits.{valuesDigits, positionAt, partsAt, headBytes, chainDigits}
-use Rattle.frames.specs.ReplyDigitLaws.{length-values, every-values}
-use Rattle.frames.specs.ReadBack.{Fitting, field-after, field-first, fields-after, fields-first, ChainRead}
-use Rattle.frames.specs.Replies.{Reply, refusedAs, servedWith, chainReply, served, replyRowOf, replyTo}
+use Rattle.frames.specs.ReplyDigits.{valuesDigits, largestDigits, recordDigits, headDigits, positionAt, recordAt}
+use Rattle.frames.specs.ReplyDigits.{chainDigits}
+use Rattle.frames.specs.ReplyDigitLaws.{length-values, length-largest, length-head, every-values}
+use Rattle.frames.specs.ReadBack.{Fitting, field-after, field-first, fields-after, fields-first, a-read, b-read, ChainRead}
+use Rattle.frames.specs.Replies.{Reply, refusedAs, servedWith, chainReply, exponentsFrom, exponentsIn, tellsLargest}
+use Rattle.frames.specs.Replies.{orSixteen, served, replyRowOf, replyTo}
 use Rattle.frames.specs.ServedLaws.{Sound, made}
 use Rattle.frames.specs.ReplyLaws.{reply-fit, served-kind, numbers-fit, position-low, reply-read}
 
@@ -46,15 +50,24 @@ unfoldable pub itemsLine : Kind → List ℕ → List ℕ → List ℕ → List 
 itemsLine k front mid xs =
     digitsOf 2 (rowOf k .byte) ++ (front ++ (digitsOf 2 (length xs) ++ (mid ++ valuesDigits (rowOf k .width) xs)))
 
--- A record, a word, a word for the next chain: nothing else stands before the items.
-abbrev pub recordLine : List ℕ → List ℕ
-recordLine numbers = itemsLine record-line [] [] numbers
-
+-- A word, a word for the next chain: nothing else stands before the letters.
 abbrev pub wordLine : Word → List ℕ
 wordLine w = itemsLine word-line [] [] w
 
 abbrev pub nextLine : Word → List ℕ
 nextLine w = itemsLine next-line [] [] w
+
+-- A line with a record: its kind, what stands before the record, the digits of the record.
+abbrev pub withRecord : Kind → List ℕ → List ℕ → List ℕ
+withRecord k front r = digitsOf 2 (rowOf k .byte) ++ (front ++ r)
+
+-- A burned record: 04 and its digits.
+abbrev pub recordLine : List ℕ → List ℕ
+recordLine r = withRecord record-line [] r
+
+-- The digits of the record in a chain's reply: all from the number of parts on.
+abbrev pub recordIn : List ℕ → List ℕ
+recordIn ds = drop (2 * recordAt) ds
 
 -- ---- they are fit, and hold the values
 
@@ -152,12 +165,57 @@ module _ (k : Kind) (front mid xs : List ℕ) (f m : ℕ) (few : length xs ≤ 2
       ∙ e (itemsLine k front mid xs)
       ∙ ap reply (items-values fits)
 
+-- A line with the record of the numbers l, and f bytes before it. It tells the exponents of the largest part.
+module _ (k : Kind) (front l : List ℕ) (f : ℕ) (wide : rowOf k .width ≡ 2) (front-long : length front ≡ 2 * f)
+    (count-place : rowOf k .countAt ≡ 1 + f) (items-place : rowOf k .before ≡ 1 + f + 1 + 2)
+    (short : 1 + f + 1 + 2 + 2 * length l ≤ 257) (front-digits : allDigits front ≡ true) (values : Fitting 2 l) where
+  abbrev line : List ℕ
+  line = withRecord k front (recordDigits l)
+
+  as-items : line ≡ itemsLine k front (largestDigits l) l
+  unfolding itemsLine recordDigits
+  as-items = rw wide
+
+  largest-written : allDigits (largestDigits l) ≡ true
+  largest-written = simp (every-append, allDigits-digits)
+
+  pub record-fit : Fit line k
+  record-fit =
+      rw as-items
+      (items-line-fit k front (largestDigits l) l f 2 (omega arith) front-long (length-largest l) count-place items-place
+      (rw wide short) front-digits largest-written)
+
+  pub record-values : itemsIn k line ≡ l
+  record-values =
+      rw as-items
+      (items-values k front (largestDigits l) l f 2 (omega arith) front-long (length-largest l) count-place items-place
+      (rw wide short) front-digits largest-written (rw wide values))
+
+  record-told : exponentsIn k line ≡ largestOf l
+  unfolding exponentsFrom
+  record-told =
+      let head = digitsOf 2 (rowOf k .byte) ++ front in
+      let long : length head ≡ 2 * (1 + f) = simp (length-append, length-digits, front-long) (omega arith) in
+      let whole : line ≡ head ++ (recordDigits l ++ []) = simp (append-assoc, append-nil) in
+      let at : (i : ℕ) → field line (1 + f + i) 1 ≡ field (recordDigits l ++ []) i 1 =
+      λ i. rw whole (field-after (1 + f) i 1 head (recordDigits l ++ []) long) in
+      let b-at : 1 + f + 1 + 1 ≡ 1 + f + 2 = omega arith in
+      rw (count-place, b-at, at 1, at 2, a-read l [] (omega arith), b-read l [] (omega arith))
+
+  pub record-tells : tellsLargest k line ≡ true
+  record-tells = rw (record-told, record-values) (same-part (largestOf l) (largestOf l) .1 refl)
+
 -- The replies to a record, a word, and a word for the next chain.
-pub record-reply : (l : List ℕ) → length l ≤ 127 → Fitting 2 l → replyTo (recordLine l) ≡ chainReply (ofRecord l)
-unfolding served rowOf every
-record-reply l h fits =
-    items-reply record-line [] [] l 0 0 (omega arith) refl refl refl refl (omega arith) refl refl
-    (λ (x : List ℕ). chainReply (ofRecord x)) (λ line. refl) fits
+pub record-reply : (l : List ℕ) → length l ≤ 126 → Fitting 2 l → replyTo (recordLine (recordDigits l)) ≡ chainReply (ofRecord l)
+unfolding served rowOf every orSixteen
+record-reply l h values =
+    let line = recordLine (recordDigits l) in
+    let fits = record-fit record-line [] l 0 refl refl refl refl (omega arith) refl values in
+    reply-fit line record-line (line-fit line record-line fits)
+    ∙ rw (
+      record-tells record-line [] l 0 refl refl refl refl (omega arith) refl values,
+      record-values record-line [] l 0 refl refl refl refl (omega arith) refl values,
+    )
 
 module _ (w : Word) (h : length w ≤ 255) (fits : Fitting 1 w) where
   pub word-reply : replyTo (wordLine w) ≡ chainReply (ofWord w)
@@ -183,7 +241,7 @@ letters-fit w h =
 -- The replies to the lines about a chain c of n: at its position, by its record, by its word; and what comes after it.
 pub record ChainLines (n : ℕ) (c : List Part) : Type 0 where
   pub placed : replyTo (atLine n (position n c)) ≡ chainReply (gives n c)
-  pub burned : replyTo (recordLine (map partNumber c)) ≡ chainReply (gives n c)
+  pub burned : replyTo (recordLine (recordDigits (map partNumber c))) ≡ chainReply (gives n c)
   pub spelled : replyTo (wordLine (wordOf c)) ≡ chainReply (gives n c)
   pub followed : position n c + 1 < count n → replyTo (nextLine (wordOf c)) ≡ replyTo (atLine n (position n c + 1))
   pub last : position n c + 1 ≡ count n → replyTo (nextLine (wordOf c)) ≡ refusedAs 11
@@ -192,7 +250,7 @@ pub chain-lines : (n : ℕ) (c : List Part) → ChainOf n c → n < 2 ^ 64 → C
 unfolding chainReply
 chain-lines n c h f =
     let low = position-low n c h f in
-    let few : length (map partNumber c) ≤ 127 = omega (arith, length-map c partNumber, parts-bound n 64 c h f) in
+    let few : length (map partNumber c) ≤ 126 = omega (arith, length-map c partNumber, parts-bound n 64 c h f) in
     let short : length (wordOf c) ≤ 255 = omega (arith, word-bound n 64 c h f) in
     let fit = letters-fit (wordOf c) (word-reads c) in
     record {
@@ -211,14 +269,21 @@ past-count n i f g l = at-reply n i f g ∙ rw (at-past n i l)
 
 -- ---- from a reply to other lines
 
--- n and the part numbers of one of its chains stand in ds. The lines of kinds 03 and 04 made of what stands there, n and position
--- or the part numbers, are served with ds.
+-- n and the record of one of its chains stand in ds. The lines of kinds 03 and 04 made of what stands there, n and position or the
+-- bytes from the number of parts on, are served with ds.
 pub record Leads (ds : List ℕ) : Type 0 where
   pub chain : List Part
   pub sums : ChainOf (field ds 1 8) chain
-  pub numbers : fields ds headBytes 2 (field ds partsAt 1) ≡ map partNumber chain
+  pub record-there : recordIn ds ≡ recordDigits (map partNumber chain)
   pub placed : replyTo (atLine (field ds 1 8) (field ds positionAt 8)) ≡ servedWith ds
-  pub burned : replyTo (recordLine (fields ds headBytes 2 (field ds partsAt 1))) ≡ servedWith ds
+  pub burned : replyTo (recordLine (recordIn ds)) ≡ servedWith ds
+
+-- The record of a chain's reply.
+pub record-of-chain : (n position : ℕ) (numbers : List ℕ) → recordIn (chainDigits n position numbers) ≡ recordDigits numbers
+unfolding chainDigits
+record-of-chain n position numbers =
+    rw (← length-head n position, ← add-zero (length (headDigits n position)))
+    (drop-append-add (headDigits n position) (recordDigits numbers) 0)
 
 pub chain-leads : (n : ℕ) (c : List Part) → ChainOf n c → n < 2 ^ 64 → Leads (chainDigits n (position n c) (map partNumber c))
 unfolding chainReply
@@ -226,12 +291,13 @@ chain-leads n c h f =
     let ds = chainDigits n (position n c) (map partNumber c) in
     let r : ChainRead n (position n c) (map partNumber c) ds = rw append-nil at (reply-read n c [] h f) in
     let l = chain-lines n c h f in
+    let there = record-of-chain n (position n c) (map partNumber c) in
     record {
       chain = c;
       sums = rw (r .number) h;
-      numbers = rw (r .parts) (r .each);
+      record-there = there;
       placed = rw (r .number, r .position-read) (l .placed);
-      burned = rw (r .parts, r .each) (l .burned);
+      burned = rw there (l .burned);
     }
 
 outcome-leads : (rs : List ℕ) (o : Outcome) → Sound rs o → (ds : List ℕ) → chainReply o ≡ servedWith ds → Leads ds
@@ -249,13 +315,12 @@ reply-leads line ds k first t e =
     outcome-leads _ o sound ds (sym f ∙ served-kind line ds k first e)
 
 -- A burned record in particular: what its reply tells, asked for at that position, gets the same digits.
-pub record-then-at : (l ds : List ℕ) → replyTo (recordLine l) ≡ servedWith ds
+pub record-then-at : (r ds : List ℕ) → replyTo (recordLine r) ≡ servedWith ds
     → replyTo (atLine (field ds 1 8) (field ds positionAt 8)) ≡ servedWith ds
-unfolding itemsLine replyRowOf
-record-then-at l ds e = reply-leads (recordLine l) ds record-line (first-byte record-line _) tt e .placed
+unfolding replyRowOf
+record-then-at r ds e = reply-leads (recordLine r) ds record-line (first-byte record-line _) tt e .placed
 
--- And back: the part numbers that stand in the reply at a position, read as a record, get the same digits.
-pub at-then-record : (n i : ℕ) (ds : List ℕ) → replyTo (atLine n i) ≡ servedWith ds
-    → replyTo (recordLine (fields ds headBytes 2 (field ds partsAt 1))) ≡ servedWith ds
+-- And back: the bytes from the number of parts on in the reply at a position, as a burned record, get the same digits.
+pub at-then-record : (n i : ℕ) (ds : List ℕ) → replyTo (atLine n i) ≡ servedWith ds → replyTo (recordLine (recordIn ds)) ≡ servedWith ds
 unfolding atLine replyRowOf
 at-then-record n i ds e = reply-leads (atLine n i) ds at-line (first-byte at-line _) tt e .burned

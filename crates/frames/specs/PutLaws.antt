@@ -49,12 +49,13 @@ one-more start j k xs ys l₀ l m s h e d =
       list = e ∙ rw (s .list) (put-put start j xs ys l₀ (s .ends) (omega (arith, s .ends)));
     }
 
--- What stands at the start, and digits of a number after it.
+-- What stands at the start; the digits of a number, first and after others.
 pub at-start : (k : ℕ) (xs l₀ l : List ℕ) → length xs ≡ k → l ≡ putAt 0 xs l₀ → Stands 0 xs l₀ l k
 at-start k xs l₀ l n e = record { ends = omega arith; list = e }
 
-pub first-digits : (k n end : ℕ) (l₀ l : List ℕ) → end ≡ 0 + k → l ≡ putAt 0 (digitsOf k n) l₀ → Stands 0 (digitsOf k n) l₀ l end
-first-digits k n end l₀ l f e = at-start end (digitsOf k n) l₀ l (omega (arith, length-digits k n)) e
+pub first-digits : (start k n end : ℕ) (l₀ l : List ℕ) → end ≡ start + k → l ≡ putAt start (digitsOf k n) l₀
+    → Stands start (digitsOf k n) l₀ l end
+first-digits start k n end l₀ l f e = record { ends = omega (arith, length-digits k n); list = e }
 
 pub more-digits : (start j k n end : ℕ) (xs l₀ l m : List ℕ) → Stands start xs l₀ l j → j ≤ length l₀ → end ≡ j + k
     → m ≡ putAt j (digitsOf k n) l

@@ -1,7 +1,7 @@
 -- Digits that were written, read back as the fields of a line: what a person or a program finds in a reply.
 --
--- In this order: a field after others, and the first one; values one after the other; a single number, a chain, a chain with its
--- price, and letters.
+-- In this order: a field after others, and the first one; values one after the other; a single number, a record, a chain, a chain
+-- with its price, and letters.
 use mathlib.Core.Path.{_≡_, refl, sym, ap, _∙_}
 use mathlib.Core.List.{List, [], _∷_, _++_, append-nil, append-assoc}
 use Prim.Native.Nat.{ℕ, zero, suc, _+_, _*_, _^_, _≤_, _<_}
@@ -9,11 +9,14 @@ use native.Mathlib.Nat.{add-zero, add-assoc, mul-add, mod-eq-of-lt}
 use native.Mathlib.Omega.{arith}
 use lib.ListN.{length, drop, getD, length-append, length-drop}
 use lib.Seq.{take-at, take-append-le, drop-append-le, drop-append-add}
+use Rattle.parts.specs.Parts.{largestOf}
+use Rattle.parts.specs.Largest.{largest-small}
 use Rattle.digits.specs.Digits.{digitsOf}
 use Rattle.digits.specs.DigitLaws.{length-digits, number-digits}
 use Rattle.lines.specs.Lines.{field, fields}
-use Rattle.frames.specs.ReplyDigits.{singleDigits, valuesDigits, numbersDigits, headDigits, positionAt, partsAt, headBytes, chainDigits}
-use Rattle.frames.specs.ReplyDigits.{pricedDigits, lettersDigits, lettersCountAt, lettersAt}
+use Rattle.frames.specs.ReplyDigits.{singleDigits, valuesDigits, numbersDigits, largestDigits, recordDigits, headDigits}
+use Rattle.frames.specs.ReplyDigits.{positionAt, recordAt, largestAt, numbersAt, chainDigits, pricedDigits, lettersDigits}
+use Rattle.frames.specs.ReplyDigits.{lettersCountAt, lettersAt}
 use Rattle.frames.specs.ReplyDigitLaws.{length-head, length-chain}
 
 -- ---- one field
@@ -76,25 +79,50 @@ single-read x h = (
       (field-after 1 0 8 (digitsOf 2 0) (digitsOf 16 x ++ []) (length-digits 2 0) ∙ field-first 8 x [] (omega arith)),
 )
 
--- What a chain's digits are read back as: 00, n, its position, how many parts it has, their numbers.
+-- What a record's digits are read back as, where they stand first and `rest` after them: how many parts it has, a and b of the
+-- largest, their numbers.
+module _ (numbers rest : List ℕ) (few : length numbers ≤ 255) where
+  count-read : field (recordDigits numbers ++ rest) 0 1 ≡ length numbers
+  unfolding recordDigits
+  count-read = rw append-assoc (field-first 1 (length numbers) _ (omega arith))
+
+  pub a-read : field (recordDigits numbers ++ rest) 1 1 ≡ largestOf numbers .a
+  unfolding recordDigits
+  a-read =
+      let small = largest-small numbers in
+      rw append-assoc
+      (field-after 1 0 1 (digitsOf 2 (length numbers)) _ (length-digits 2 (length numbers))
+      ∙ simp append-assoc (field-first 1 (largestOf numbers .a) _ (omega arith)))
+
+  pub b-read : field (recordDigits numbers ++ rest) 2 1 ≡ largestOf numbers .b
+  unfolding recordDigits
+  b-read =
+      let small = largest-small numbers in
+      let a = digitsOf 2 (largestOf numbers .a) in
+      rw append-assoc
+      (field-after 1 1 1 (digitsOf 2 (length numbers)) _ (length-digits 2 (length numbers))
+      ∙ simp append-assoc (field-after 1 0 1 a _ (length-digits 2 (largestOf numbers .a)) ∙ field-first 1 (largestOf numbers .b) _ (omega arith)))
+
+  numbers-read : Fitting 2 numbers → fields (recordDigits numbers ++ rest) 3 2 (length numbers) ≡ numbers
+  unfolding recordDigits
+  numbers-read fit =
+      let head = digitsOf 2 (length numbers) ++ largestDigits numbers in
+      let long : length head ≡ 2 * 3 = simp (length-append, length-digits) in
+      let whole : recordDigits numbers ++ rest ≡ head ++ (numbersDigits numbers ++ rest) = simp append-assoc in
+      rw whole (fields-after 3 0 2 (length numbers) head (numbersDigits numbers ++ rest) long ∙ fields-first 2 numbers rest fit)
+
+-- What a chain's digits are read back as: 00, n, its position, and its record.
 pub record ChainRead (n position : ℕ) (numbers ds : List ℕ) : Type 0 where
   pub zero-first : field ds 0 1 ≡ 0
   pub number : field ds 1 8 ≡ n
   pub position-read : field ds positionAt 8 ≡ position
-  pub parts : field ds partsAt 1 ≡ length numbers
-  pub each : fields ds headBytes 2 (length numbers) ≡ numbers
+  pub parts : field ds recordAt 1 ≡ length numbers
+  pub largest-a : field ds largestAt 1 ≡ largestOf numbers .a
+  pub largest-b : field ds (largestAt + 1) 1 ≡ largestOf numbers .b
+  pub each : fields ds numbersAt 2 (length numbers) ≡ numbers
 
 module _ (n position : ℕ) (numbers rest : List ℕ) (f : n < 2 ^ 64) (g : position < 2 ^ 64) (few : length numbers ≤ 64)
     (fit : Fitting 2 numbers) where
-  numbers-read : fields (chainDigits n position numbers ++ rest) headBytes 2 (length numbers) ≡ numbers
-  unfolding chainDigits
-  numbers-read =
-      let head = headDigits n position numbers in
-      rw (append-assoc head (numbersDigits numbers) rest)
-      (fields-after headBytes 0 2 (length numbers) head (numbersDigits numbers ++ rest) (length-head n position numbers)
-      ∙ fields-first 2 numbers rest fit)
-
-  -- `more` is what stands after the number of parts.
   pub chain-read : ChainRead n position numbers (chainDigits n position numbers ++ rest)
   unfolding chainDigits headDigits
   chain-read =
@@ -102,28 +130,30 @@ module _ (n position : ℕ) (numbers rest : List ℕ) (f : n < 2 ^ 64) (g : posi
       let a = digitsOf 2 0 in
       let b = digitsOf 16 n in
       let c = digitsOf 16 position in
-      let d = digitsOf 2 (length numbers) in
-      let more = numbersDigits numbers ++ rest in
-      let whole : ds ≡ a ++ (b ++ (c ++ (d ++ more))) = simp append-assoc in
-      let after-a : (at k : ℕ) → field ds (1 + at) k ≡ field (b ++ (c ++ (d ++ more))) at k =
-      λ at k. rw whole (field-after 1 at k a (b ++ (c ++ (d ++ more))) (length-digits 2 0)) in
-      let after-b : (at k : ℕ) → field ds (1 + (8 + at)) k ≡ field (c ++ (d ++ more)) at k =
-      λ at k. after-a (8 + at) k ∙ field-after 8 at k b (c ++ (d ++ more)) (length-digits 16 n) in
+      let after = recordDigits numbers ++ rest in
+      let whole : ds ≡ a ++ (b ++ (c ++ after)) = simp append-assoc in
+      let after-a : (at k : ℕ) → field ds (1 + at) k ≡ field (b ++ (c ++ after)) at k =
+      λ at k. rw whole (field-after 1 at k a (b ++ (c ++ after)) (length-digits 2 0)) in
+      let in-record : (at k : ℕ) → field ds (recordAt + at) k ≡ field after at k =
+      λ at k. rw append-assoc (field-after recordAt at k (headDigits n position) after (length-head n position)) in
+      let most : length numbers ≤ 255 = omega arith in
       record {
-        zero-first = rw whole (field-first 1 0 (b ++ (c ++ (d ++ more))) (omega arith));
-        number = after-a 0 8 ∙ field-first 8 n (c ++ (d ++ more)) (omega arith);
-        position-read = after-b 0 8 ∙ field-first 8 position (d ++ more) (omega arith);
-        parts = after-b 8 1 ∙ field-after 8 0 1 c (d ++ more) (length-digits 16 position)
-            ∙ field-first 1 (length numbers) more (omega arith);
-        each = numbers-read;
+        zero-first = rw whole (field-first 1 0 (b ++ (c ++ after)) (omega arith));
+        number = after-a 0 8 ∙ field-first 8 n (c ++ after) (omega arith);
+        position-read = after-a 8 8 ∙ field-after 8 0 8 b (c ++ after) (length-digits 16 n) ∙ field-first 8 position after (omega arith);
+        parts = in-record 0 1 ∙ count-read numbers rest most;
+        largest-a = in-record 1 1 ∙ a-read numbers rest most;
+        largest-b = in-record 2 1 ∙ b-read numbers rest most;
+        each = rw append-assoc (fields-after recordAt 3 2 (length numbers) (headDigits n position) after (length-head n position))
+            ∙ numbers-read numbers rest most fit;
       }
 
 -- The price follows the last part number.
 pub price-read : (n position : ℕ) (numbers : List ℕ) (price : ℕ) → price < 2 ^ 32
-    → field (pricedDigits n position numbers price) (headBytes + 2 * length numbers) 4 ≡ price
+    → field (pricedDigits n position numbers price) (numbersAt + 2 * length numbers) 4 ≡ price
 unfolding pricedDigits
 price-read n position numbers price h =
-    let at = headBytes + 2 * length numbers in
+    let at = numbersAt + 2 * length numbers in
     let ds = chainDigits n position numbers in
     let long : length ds ≡ 2 * at = length-chain n position numbers in
     rw (← append-nil (digitsOf 8 price), ← add-zero at)

@@ -4,11 +4,11 @@
 -- (`reply-no-kind`).
 use mathlib.Core.Path.{_≡_, refl, ap, subst, _∙_}
 use mathlib.Core.Logic.{_↔_, _⊎_, inl, inr, ⊎-elim, Iff·trans}
-use mathlib.Core.Bool.{Bool, true, false, not, cond, and-eq-true-iff}
+use mathlib.Core.Bool.{Bool, true, false, not, cond}
 use mathlib.Core.List.{List, [], _∷_}
 use mathlib.Core.Option.{Option, none, some}
 use Prim.Native.Nat.{ℕ, _*_, _≤_}
-use borrow.Author.Tests.{leb-true, eqb-true, not-true}
+use borrow.Author.Tests.{leb-true, not-true}
 use lib.Dec.{T, leb, eqb}
 use lib.ListN.{length}
 use Rattle.lent.specs.Lent.{filled}
@@ -17,7 +17,7 @@ use Rattle.lines.specs.Kinds.{Kind, kinds, kindOf}
 use Rattle.lines.specs.Lines.{Shape, unfit, fit, field, bytesIn, badLength, Proper, shapeOfKind, shapeOf}
 use Rattle.lines.specs.LineLaws.{passes, each-kind, no-digit, no-kind}
 use Rattle.frames.specs.Replies.{refusedAs, digitsIn, served, replyRowOf, refusalsOf, replyByShape, replyTo, replyOf, outLeft}
-use Rattle.frames.specs.ServedLaws.{among, ReplyIn, made}
+use Rattle.frames.specs.ServedLaws.{among, among-passes, ReplyIn, made}
 
 -- A line that is not fit: its length, a character, its kind.
 unfoldable pub shapeRefusals : List ℕ
@@ -58,20 +58,7 @@ reply-refusals line r e = go (shapeOf line) refl (of-shape line)
 -- The refusals of lines in the tables of document 01 and document 02. 1 is for too little lent, and 12 for the plain count, which
 -- no line asks for.
 unfoldable pub lineRefusals : List ℕ
-lineRefusals = 2 ∷ 3 ∷ 4 ∷ 5 ∷ 6 ∷ 7 ∷ 8 ∷ 9 ∷ 10 ∷ 11 ∷ 13 ∷ 14 ∷ 15 ∷ []
-
--- A number among some that all pass a test passes it.
-among-passes : (p : ℕ → Bool) (r : ℕ) (xs : List ℕ) → every p xs ≡ true → T (among r xs) → p r ≡ true
-unfolding among every
-among-passes p r [] e t = absurd t
-among-passes p r (x ∷ xs) e t = go (among-passes p r xs) (eqb r x) refl
-  where
-    both : (p x ≡ true) × (every p xs ≡ true)
-    both = and-eq-true-iff (p x) (every p xs) .0 e
-
-    go : (every p xs ≡ true → T (among r xs) → p r ≡ true) → (b : Bool) → eqb r x ≡ b → p r ≡ true
-    go later true h = ap p (eqb-true r x h) ∙ both .0
-    go later false h = later (both .1) (rw h at t)
+lineRefusals = 2 ∷ 3 ∷ 4 ∷ 5 ∷ 6 ∷ 7 ∷ 8 ∷ 9 ∷ 10 ∷ 11 ∷ 13 ∷ 14 ∷ 15 ∷ 16 ∷ []
 
 -- A line is refused with a number of the tables only.
 pub reply-refusal : (line : List ℕ) (r : ℕ) → replyTo line ≡ refusedAs r → T (among r lineRefusals)

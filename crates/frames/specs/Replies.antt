@@ -1,5 +1,5 @@
 -- The reply to a line, from the line's characters alone: document 01, 'Frames' and 'What a refused line or call gets'; document 02,
--- T-02, T-04 and T-05. It is a function of the line: neither the lines before it nor what the lent memory held has a part in it.
+-- T-02 and T-04 to T-06. It is a function of the line: neither the lines before it nor what the lent memory held has a part in it.
 --
 -- In this order: replies and their digits; the replies of each kind, and what they can be; the reply to a line; what a call answers
 -- and leaves behind.
@@ -7,7 +7,8 @@
 -- services.
 use mathlib.Core.Bool.{Bool, true, false, cond}
 use mathlib.Core.List.{List, [], _∷_, map}
-use Prim.Native.Nat.{ℕ}
+use Prim.Native.Nat.{ℕ, _+_}
+use lib.Dec.{eqb}
 use lib.ListN.{length}
 use Rattle.chains.specs.Chains.{Part}
 use Rattle.chains.specs.Listing.{count, position}
@@ -20,9 +21,10 @@ use Rattle.trees.specs.Answers.{ofTree, TreeWord, noTree, treeWord, recordTree}
 use Rattle.running.specs.Ran.{ranOf}
 use Rattle.running.specs.declared.Ran.{Ran}
 use Rattle.running.specs.declared.Ran.the-variants as ran
+use Rattle.parts.specs.Parts.{largestOf, samePart}
 use Rattle.digits.specs.Digits.{digitsOf}
 use Rattle.lines.specs.Kinds.{Kind, count-line, best-line, at-line, record-line, word-line, next-line, run-line}
-use Rattle.lines.specs.Kinds.{tree-line, to-tree-line}
+use Rattle.lines.specs.Kinds.{tree-line, to-tree-line, rowOf}
 use Rattle.lines.specs.Lines.{field, itemsIn, Shape, unfit, fit, shapeOf}
 use Rattle.frames.specs.ReplyDigits.{singleDigits, chainDigits, pricedDigits, lettersDigits}
 use Rattle.frames.specs.declared.Replied.{Replied}
@@ -76,18 +78,36 @@ modulusIn line = field line 1 8
 abbrev pub residueIn : List ℕ → ℕ
 residueIn line = field line 9 8
 
+-- What a line with a record tells of its largest part: a and b, right after the number of parts.
+unfoldable pub exponentsFrom : List ℕ → ℕ → Part
+exponentsFrom line at = record { a = field line at 1; b = field line (at + 1) 1 }
+
+abbrev pub exponentsIn : Kind → List ℕ → Part
+exponentsIn k line = exponentsFrom line (rowOf k .countAt + 1)
+
+-- Whether they are those of its largest part.
+abbrev pub tellsLargest : Kind → List ℕ → Bool
+tellsLargest k line = samePart (exponentsIn k line) (largestOf (itemsIn k line))
+
+-- The reply to a line with a record: 16 where it does not tell its largest part. Any refusal but 15 comes before that.
+unfoldable pub orSixteen : Bool → Reply → Reply
+orSixteen true x = x
+orSixteen false (servedWith ds) = refusedAs 16
+orSixteen false (refusedAs r) = refusedAs (cond (eqb r 15) 16 r)
+
 -- The reply to a fit line of a kind, by the services' own definitions.
 unfoldable pub served : Kind → List ℕ → Reply
 served count-line line = servedWith (singleDigits (count (field line 1 8)))
 served best-line line =
     pricedReply (price (pricesIn line)) (bestOutcome (field line 1 8) (limitsIn line) (price (pricesIn line)))
 served at-line line = chainReply (atPosition (field line 1 8) (field line 9 8))
-served record-line line = chainReply (ofRecord (itemsIn record-line line))
+served record-line line = orSixteen (tellsLargest record-line line) (chainReply (ofRecord (itemsIn record-line line)))
 served word-line line = chainReply (ofWord (itemsIn word-line line))
 served next-line line = chainReply (nextOf (ofWord (itemsIn next-line line)))
-served run-line line = ranReply (ranOf (itemsIn run-line line) (modulusIn line) (residueIn line))
+served run-line line =
+    orSixteen (tellsLargest run-line line) (ranReply (ranOf (itemsIn run-line line) (modulusIn line) (residueIn line)))
 served tree-line line = chainReply (ofTree (itemsIn tree-line line))
-served to-tree-line line = lettersReply (recordTree (itemsIn to-tree-line line))
+served to-tree-line line = orSixteen (tellsLargest to-tree-line line) (lettersReply (recordTree (itemsIn to-tree-line line)))
 
 -- What the reply to a fit line of a kind can be.
 pub record ReplyRow : Type 0 where
@@ -103,12 +123,12 @@ unfoldable pub replyRowOf : Kind → ReplyRow
 replyRowOf count-line = replyRow [] false
 replyRowOf best-line = replyRow (5 ∷ []) false
 replyRowOf at-line = replyRow (6 ∷ []) true
-replyRowOf record-line = replyRow (8 ∷ 9 ∷ 10 ∷ []) true
+replyRowOf record-line = replyRow (8 ∷ 9 ∷ 10 ∷ 16 ∷ []) true
 replyRowOf word-line = replyRow (7 ∷ 10 ∷ []) true
 replyRowOf next-line = replyRow (7 ∷ 10 ∷ 11 ∷ []) true
-replyRowOf run-line = replyRow (13 ∷ 14 ∷ 8 ∷ 9 ∷ 10 ∷ []) false
+replyRowOf run-line = replyRow (13 ∷ 14 ∷ 8 ∷ 9 ∷ 10 ∷ 16 ∷ []) false
 replyRowOf tree-line = replyRow (15 ∷ 10 ∷ []) true
-replyRowOf to-tree-line = replyRow (8 ∷ 9 ∷ 10 ∷ 15 ∷ []) false
+replyRowOf to-tree-line = replyRow (8 ∷ 9 ∷ 10 ∷ 16 ∷ 15 ∷ []) false
 
 abbrev pub refusalsOf : Kind → List ℕ
 refusalsOf k = replyRowOf k .refusals

@@ -2,14 +2,14 @@
 -- (`replyRowOf`) holds. All that is known of every reply follows from that law.
 --
 -- In this order: refusals among some numbers; the services' outcomes; frames; the replies, kind by kind.
-use mathlib.Core.Path.{_≡_, refl}
+use mathlib.Core.Path.{_≡_, refl, ap, _∙_}
 use mathlib.Core.Logic.{_⊎_, inl, inr}
-use mathlib.Core.Bool.{Bool, true, false, _||_}
+use mathlib.Core.Bool.{Bool, true, false, cond, _||_, and-eq-true-iff}
 use mathlib.Core.List.{List, [], _∷_, map}
 use mathlib.Core.Option.{Option, none, some}
 use Prim.Native.Nat.{ℕ, _+_, _*_, _%_, _^_, _≤_, _<_}
 use native.Mathlib.Omega.{arith}
-use borrow.Author.Tests.{eq-eqb}
+use borrow.Author.Tests.{eq-eqb, eqb-true}
 use lib.Dec.{T, eqb}
 use lib.ListN.{length, length-map}
 use Rattle.chains.specs.Chains.{Part, ChainOf}
@@ -34,10 +34,12 @@ use Rattle.lines.specs.Kinds.{Kind, count-line, best-line, at-line, record-line
 use Rattle.lines.specs.Kinds.{tree-line, to-tree-line}
 use Rattle.lines.specs.Lines.{field, itemsIn}
 use Rattle.lines.specs.LineLaws.{field-below}
-use Rattle.frames.specs.ReplyDigits.{singleDigits, headDigits, headBytes, chainDigits, pricedDigits, lettersDigits, lettersAt}
+use Rattle.frames.specs.ReplyDigits.{singleDigits, recordDigits, headDigits, numbersAt, chainDigits, pricedDigits, lettersDigits}
+use Rattle.frames.specs.ReplyDigits.{lettersAt}
 use Rattle.frames.specs.ReplyDigitLaws.{length-single, length-chain, length-priced, length-letters, every-values}
 use Rattle.frames.specs.Replies.{Reply, refusedAs, servedWith, digitsIn, chainReply, pricedReply, ranReply, lettersReply}
-use Rattle.frames.specs.Replies.{limitsIn, pricesIn, modulusIn, residueIn, served, ReplyRow, replyRow, replyRowOf}
+use Rattle.frames.specs.Replies.{limitsIn, pricesIn, modulusIn, residueIn, tellsLargest, orSixteen, served, ReplyRow, replyRow}
+use Rattle.frames.specs.Replies.{replyRowOf}
 
 -- ---- refusals among some numbers
 
@@ -61,6 +63,19 @@ one-among r [] h = absurd h
 one-among r (x ∷ []) h = rw (eq-eqb r x h) tt
 one-among r (x ∷ y ∷ xs) (inl e) = rw (eq-eqb r x e) tt
 one-among r (x ∷ y ∷ xs) (inr l) = or-right (eqb r x) (among r (y ∷ xs)) (one-among r (y ∷ xs) l)
+
+-- A number among some that all pass a test passes it.
+pub among-passes : (p : ℕ → Bool) (r : ℕ) (xs : List ℕ) → every p xs ≡ true → T (among r xs) → p r ≡ true
+unfolding among every
+among-passes p r [] e t = absurd t
+among-passes p r (x ∷ xs) e t = go (among-passes p r xs) (eqb r x) refl
+  where
+    both : (p x ≡ true) × (every p xs ≡ true)
+    both = and-eq-true-iff (p x) (every p xs) .0 e
+
+    go : (every p xs ≡ true → T (among r xs) → p r ≡ true) → (b : Bool) → eqb r x ≡ b → p r ≡ true
+    go later true h = ap p (eqb-true r x h) ∙ both .0
+    go later false h = later (both .1) (rw h at t)
 
 abbrev pub ReplyIn : List ℕ → Reply → Type 0
 ReplyIn rs (refusedAs r) = T (among r rs)
@@ -149,19 +164,19 @@ single-frame x =
 
 module _ (n position : ℕ) (numbers : List ℕ) (few : length numbers ≤ 64) where
   written-chain : every isWritten (chainDigits n position numbers) ≡ true
-  unfolding chainDigits headDigits
+  unfolding chainDigits headDigits recordDigits
   written-chain = simp (every-append, written-digits, every-values isWritten written-digits)
 
   chain-frame : Frame (chainDigits n position numbers)
   chain-frame =
       let k = length-chain n position numbers in
-      frame (headBytes + 2 * length numbers) (chainDigits n position numbers) k (omega arith) (omega arith) written-chain
+      frame (numbersAt + 2 * length numbers) (chainDigits n position numbers) k (omega arith) (omega arith) written-chain
 
   priced-frame : (price : ℕ) → Frame (pricedDigits n position numbers price)
   unfolding pricedDigits
   priced-frame price =
       let k = length-priced n position numbers price in
-      frame (headBytes + 2 * length numbers + 4) (pricedDigits n position numbers price) k (omega arith) (omega arith)
+      frame (numbersAt + 2 * length numbers + 4) (pricedDigits n position numbers price) k (omega arith) (omega arith)
       (simp (every-append, written-digits, written-chain))
 
 letters-frame : (w : List ℕ) → length w ≤ 157 → Frame (lettersDigits w)
@@ -217,22 +232,64 @@ record-tree-short l w e =
     let (n, c, chain, above, fits, numbers, word) = record-tree l w e in
     rw word (tree-short n c above chain fits)
 
+-- A line with a record: the reply x, or 16. Its refusals are those of x, and 16.
+module _ (rs more : List ℕ) (kept : every (λ (r : ℕ). among r more) rs ≡ true) (sixteen : T (among 16 more)) where
+  still : (r : ℕ) → T (among r rs) → T (among r more)
+  still r t = rw (among-passes (λ (q : ℕ). among q more) r rs kept t) tt
+
+  or-still : (r : ℕ) → T (among r rs) → T (among (cond (eqb r 15) 16 r) more)
+  or-still r t = go (eqb r 15)
+    where
+      go : (b : Bool) → T (among (cond b 16 r) more)
+      go true = sixteen
+      go false = still r t
+
+  looked-in : (b : Bool) (x : Reply) → ReplyIn rs x → ReplyIn more (orSixteen b x)
+  unfolding orSixteen
+  looked-in true (refusedAs r) t = still r t
+  looked-in true (servedWith ds) t = tt
+  looked-in false (refusedAs r) t = or-still r t
+  looked-in false (servedWith ds) t = sixteen
+
+  looked-frame : (b : Bool) (x : Reply) → Frame (digitsIn x) → Frame (digitsIn (orSixteen b x))
+  unfolding orSixteen digitsIn
+  looked-frame true x f = f
+  looked-frame false (refusedAs r) f = refusal-frame (cond (eqb r 15) 16 r)
+  looked-frame false (servedWith ds) f = refusal-frame 16
+
+  looked-sound : (b : Bool) (o : Outcome) → Sound rs o → (p : Outcome) × Sound more p × (orSixteen b (chainReply o) ≡ chainReply p)
+  unfolding orSixteen chainReply
+  looked-sound true (refused r) s = (refused r, still r s, refl)
+  looked-sound true (gives n c) s = (gives n c, s, refl)
+  looked-sound false (refused r) s = (refused (cond (eqb r 15) 16 r), or-still r s, refl)
+  looked-sound false (gives n c) s = (refused 16, sixteen, refl)
+
+  looked : {e : Bool} (b : Bool) (x : Reply) → Made (replyRow rs e) x → Made (replyRow more e) (orSixteen b x)
+  looked b x m =
+      record {
+        framed = looked-frame b x (m .framed);
+        refusal = looked-in b x (m .refusal);
+        chain = λ t. let (o, s, f) = m .chain t in rw f (looked-sound b o s);
+      }
+
 -- The numbers that stand in a line.
 pub number-low : (line : List ℕ) (at : ℕ) → field line at 8 < 2 ^ 64
 number-low line at = omega (arith, field-below line at 8)
 
 pub made : (k : Kind) (line : List ℕ) → Made (replyRowOf k) (served k line)
-unfolding replyRowOf served digitsIn
+unfolding replyRowOf served digitsIn among every
 made count-line line = plain _ (single-frame (count (field line 1 8))) tt
 made best-line line = priced (price (pricesIn line)) _ (best-sound (field line 1 8) (limitsIn line) (pricesIn line) (number-low line 1))
 made at-line line = chained _ (at-sound (field line 1 8) (field line 9 8) (number-low line 1))
-made record-line line = chained _ (record-sound (itemsIn record-line line))
+made record-line line = looked _ _ refl tt (tellsLargest record-line line) _ (chained _ (record-sound (itemsIn record-line line)))
 made word-line line = chained _ (word-sound (itemsIn word-line line))
 made next-line line = chained _ (next-sound (itemsIn next-line line))
 made run-line line =
-    ran-made (ranOf (itemsIn run-line line) (modulusIn line) (residueIn line))
-    (run-refusals (itemsIn run-line line) (modulusIn line) (residueIn line) .no-other)
+    looked (13 ∷ 14 ∷ 8 ∷ 9 ∷ 10 ∷ []) _ refl tt (tellsLargest run-line line) _
+    (ran-made (ranOf (itemsIn run-line line) (modulusIn line) (residueIn line))
+    (run-refusals (itemsIn run-line line) (modulusIn line) (residueIn line) .no-other))
 made tree-line line = chained _ (tree-sound (itemsIn tree-line line))
 made to-tree-line line =
-    letters-made (recordTree (itemsIn to-tree-line line)) (record-tree-refusals (itemsIn to-tree-line line) .no-other)
-    (record-tree-short (itemsIn to-tree-line line))
+    looked (8 ∷ 9 ∷ 10 ∷ 15 ∷ []) _ refl tt (tellsLargest to-tree-line line) _
+    (letters-made (recordTree (itemsIn to-tree-line line)) (record-tree-refusals (itemsIn to-tree-line line) .no-other)
+    (record-tree-short (itemsIn to-tree-line line)))

@@ -5,31 +5,39 @@
 -- every chain of n (`chain-to-tree`, `tree-to-chain`), also the chain that another line's reply tells (`leads-trees`); from the
 -- reply to any line of one of the two kinds to a line of the other and back (`tree-then-to-tree`, `to-tree-then-tree`).
 use mathlib.Core.Path.{_≡_, refl, sym, ap, _∙_}
-use mathlib.Core.Logic.{_↔_, Iff·trans}
+use mathlib.Core.Logic.{_↔_, _⊎_, inl, inr, ⊎-elim, Iff·and, Iff·trans}
 use mathlib.Core.List.{List, [], map, append-nil}
 use mathlib.Core.Option.{some}
-use Prim.Native.Nat.{ℕ, _^_, _≤_, _<_}
+use Prim.Native.Nat.{ℕ, zero, suc, _^_, _≤_, _<_}
 use native.Mathlib.Omega.{arith}
 use lib.ListN.{length}
-use Rattle.chains.specs.Chains.{Part, ChainOf}
+use Rattle.chains.specs.Chains.{Part, Chained, total, ChainOf}
 use Rattle.chains.specs.Words.{Word, wordOf}
 use Rattle.chains.specs.Listing.{position}
+use Rattle.chains.specs.Bounds.{chain-of-0}
 use Rattle.parts.specs.Parts.{partNumber}
+use Rattle.words.specs.Records.{recordParts, judgedOf}
+use Rattle.words.specs.RecordLaws.{in-table, judged-sum}
+use Rattle.words.specs.WordLaws.{numbers-of-parts, chain-judged}
+use Rattle.words.specs.Refusals.{Outside}
 use Rattle.ranking.specs.Services.{Outcome, refused, gives}
 use Rattle.trees.specs.TreeOf.{treeOf}
 use Rattle.trees.specs.Answers.{ofTree, TreeWord, noTree, treeWord, recordTree}
-use Rattle.trees.specs.AnswerLaws.{tree-gives, TreeRefusals, tree-lifted, tree-refusals, record-tree, RecordTreeRefusals}
-use Rattle.trees.specs.AnswerLaws.{record-tree-lifted, record-tree-refusals, chain-tree-written, chain-tree-read}
-use Rattle.trees.specs.AnswerLaws.{tree-short, tree-low}
+use Rattle.trees.specs.AnswerLaws.{tree-gives, TreeRefusals, tree-lifted, tree-refusals, record-tree, record-tree-refusals}
+use Rattle.trees.specs.AnswerLaws.{chain-tree-written, chain-tree-read, tree-short, tree-low}
 use Rattle.digits.specs.Digits.{every}
 use Rattle.lines.specs.Kinds.{tree-line, to-tree-line, rowOf, kindOf}
 use Rattle.lines.specs.Lines.{field, fields, itemsIn, fit, shapeOf}
-use Rattle.frames.specs.ReplyDigits.{partsAt, headBytes, chainDigits, lettersDigits, lettersCountAt, lettersAt}
+use Rattle.lines.specs.LineLaws.{line-fit}
+use Rattle.frames.specs.ReplyDigits.{recordDigits, recordAt, numbersAt, chainDigits, lettersDigits, lettersCountAt, lettersAt}
 use Rattle.frames.specs.ReadBack.{Fitting, ChainRead, letters-read}
-use Rattle.frames.specs.Replies.{refusedAs, servedWith, chainReply, lettersReply, served, replyTo}
+use Rattle.frames.specs.Replies.{Reply, refusedAs, servedWith, chainReply, lettersReply, tellsLargest, orSixteen, served, replyTo}
 use Rattle.frames.specs.ServedLaws.{few-numbers, number-low}
 use Rattle.frames.specs.ReplyLaws.{reply-fit, served-kind, numbers-fit, reply-read}
-use Rattle.frames.specs.LineTrips.{itemsLine, wordLine, items-reply, Leads, chain-lines}
+use Rattle.frames.specs.LineTrips.{itemsLine, wordLine, withRecord, recordIn, items-reply, record-fit, record-values, record-tells}
+use Rattle.frames.specs.LineTrips.{Leads, chain-lines, record-of-chain}
+use Rattle.frames.specs.RecordLines.{LargestTold, Open, Named, outcome-refused, looked-served, tells}
+use Rattle.frames.specs.RecordLines.{line-served, line-before, line-fifteen, line-sixteen, line-only}
 
 -- ---- served and refused
 
@@ -73,17 +81,6 @@ module _ (w : Word) where
           let of : SomeChain = record { n = n; chain = c; sums = sums; above = above; fits = fits } in
           record { of = of; word = sym word; digits = cc (rw g at e) }
 
-  word-refused : (r : ℕ) → (chainReply (ofTree w) ≡ refusedAs r) ↔ (ofTree w ≡ refused r)
-  unfolding chainReply
-  word-refused r = go (ofTree w)
-    where
-      go : (o : Outcome) → (chainReply o ≡ refusedAs r) ↔ (o ≡ refused r)
-      go (refused q) = (λ e. cc, λ e. cc)
-      go (gives n c) = (
-        λ e. let z : _≡_ {A = ℕ} 0 1 = cc in absurd (omega arith),
-        λ e. let z : _≡_ {A = ℕ} 0 1 = cc in absurd (omega arith),
-      )
-
 module _ (l : List ℕ) where
   record-served : (ds : List ℕ) → (lettersReply (recordTree l) ≡ servedWith ds) ↔ ToTreeReply l ds
   unfolding lettersReply
@@ -126,37 +123,102 @@ module _ (line : List ℕ) (f : shapeOf line ≡ fit tree-line) where
 
   pub tree-refused : TreeRefusals (itemsIn tree-line line) (λ r. replyTo line ≡ refusedAs r)
   tree-refused =
-      tree-lifted (λ r. Iff·trans ((λ e. sym tree-reply ∙ e), λ e. tree-reply ∙ e) (word-refused (itemsIn tree-line line) r))
+      tree-lifted (λ r. Iff·trans ((λ e. sym tree-reply ∙ e), λ e. tree-reply ∙ e) (outcome-refused (ofTree (itemsIn tree-line line)) r))
       (tree-refusals (itemsIn tree-line line))
+
+zero-or-more : (n : ℕ) → (n ≡ 0) ⊎ (1 ≤ n)
+zero-or-more zero = inl refl
+zero-or-more (suc n) = inr (omega arith)
+
+-- The refusals, as in RecordLines: those of the record, then 16, then 15.
+pub record ToTreeLineRefusals (l : List ℕ) (told : Type 0) (refused : ℕ → Type 0) : Type 0 where
+  pub refusal-8 : refused 8 ↔ Outside l
+  pub refusal-9 : refused 9 ↔ ((¬ Outside l) × (¬ Chained (recordParts l)))
+  pub refusal-10 : refused 10 ↔ ((¬ Outside l) × Chained (recordParts l) × (2 ^ 64 ≤ total (recordParts l)))
+  pub refusal-16 : refused 16 ↔ (Named l × (¬ told))
+  pub refusal-15 : refused 15 ↔ (told × (l ≡ []))
+  pub no-other : (r : ℕ) → refused r → (r ≡ 16) ⊎ ((r ≡ 8) ⊎ ((r ≡ 9) ⊎ ((r ≡ 10) ⊎ (r ≡ 15))))
 
 -- A fit line of kind 09.
 module _ (line : List ℕ) (f : shapeOf line ≡ fit to-tree-line) where
-  to-tree-reply : replyTo line ≡ lettersReply (recordTree (itemsIn to-tree-line line))
+  abbrev numbers : List ℕ
+  numbers = itemsIn to-tree-line line
+
+  -- The reply without the two bytes after the number of parts.
+  abbrev plain : Reply
+  plain = lettersReply (recordTree numbers)
+
+  to-tree-reply : replyTo line ≡ orSixteen (tellsLargest to-tree-line line) plain
   unfolding served
   to-tree-reply = reply-fit line to-tree-line f
 
-  pub to-tree-served : (ds : List ℕ) → (replyTo line ≡ servedWith ds) ↔ ToTreeReply (itemsIn to-tree-line line) ds
+  pub to-tree-served : (ds : List ℕ) → (replyTo line ≡ servedWith ds) ↔ (LargestTold to-tree-line line × ToTreeReply numbers ds)
   to-tree-served ds =
-      Iff·trans ((λ e. sym to-tree-reply ∙ e), λ e. to-tree-reply ∙ e) (record-served (itemsIn to-tree-line line) ds)
+      Iff·trans (line-served to-tree-line line plain to-tree-reply ds) (Iff·and ((λ t. t), λ t. t) (record-served numbers ds))
 
-  pub to-tree-refused : RecordTreeRefusals (itemsIn to-tree-line line) (λ r. replyTo line ≡ refusedAs r)
+  only : (r : ℕ) → plain ≡ refusedAs r → (r ≡ 8) ⊎ ((r ≡ 9) ⊎ ((r ≡ 10) ⊎ (r ≡ 15)))
+  only r e = record-tree-refusals numbers .no-other r (record-refused numbers r .0 e)
+
+  not-16 : ¬ (plain ≡ refusedAs 16)
+  not-16 e =
+      ⊎-elim (λ (g : 16 ≡ 8). omega arith)
+      (⊎-elim (λ (g : 16 ≡ 9). omega arith) (⊎-elim (λ (g : 16 ≡ 10). omega arith) (λ (g : 16 ≡ 15). omega arith))) (only 16 e)
+
+  named : Open plain ↔ Named numbers
+  unfolding total
+  named = (there, back)
+    where
+      there : Open plain → Named numbers
+      there =
+          ⊎-elim
+          (λ (s : (ds : List ℕ) × (plain ≡ servedWith ds)).
+          let t = record-served numbers (s .0) .0 (s .1) in
+          let c = t .of in
+          (c .n, judged-sum numbers (c .n) .0 (ap judgedOf (t .numbers) ∙ chain-judged (c .n) (c .chain) (c .sums) (c .fits))))
+          (λ (e : plain ≡ refusedAs 15).
+          let none-there = record-tree-refusals numbers .refusal-15 .0 (record-refused numbers 15 .0 e) in
+          (0, judged-sum numbers 0 .0 (ap judgedOf none-there ∙ chain-judged 0 [] (record { chained = tt; sums = refl }) (omega arith))))
+
+      back : Named numbers → Open plain
+      back (n, b) =
+          let same = numbers-of-parts numbers (in-table numbers .1 (b .known)) in
+          ⊎-elim (λ (z : n ≡ 0). inr (record-refused numbers 15 .1 (record-tree-refusals numbers .refusal-15 .1
+          (sym same ∙ ap (map partNumber) (chain-of-0 (recordParts numbers) .0 (rw z at (b .chain)))))))
+          (λ (l : 1 ≤ n).
+          let of : SomeChain = record { n = n; chain = recordParts numbers; sums = b .chain; above = l; fits = b .fits } in
+          inl (_, record-served numbers _ .1 (record { of = of; numbers = sym same; digits = refl })))
+          (zero-or-more n)
+
+  before : (r : ℕ) → r < 15 → {P : Type 0} → (recordTree numbers ≡ noTree r) ↔ P → (replyTo line ≡ refusedAs r) ↔ P
+  before r h p = Iff·trans (line-before to-tree-line line plain to-tree-reply r h) (Iff·trans (record-refused numbers r) p)
+
+  pub to-tree-refused : ToTreeLineRefusals numbers (LargestTold to-tree-line line) (λ r. replyTo line ≡ refusedAs r)
   to-tree-refused =
-      record-tree-lifted
-      (λ r. Iff·trans ((λ e. sym to-tree-reply ∙ e), λ e. to-tree-reply ∙ e) (record-refused (itemsIn to-tree-line line) r))
-      (record-tree-refusals (itemsIn to-tree-line line))
+      let tree = record-tree-refusals numbers in
+      record {
+        refusal-8 = before 8 (omega arith) (tree .refusal-8);
+        refusal-9 = before 9 (omega arith) (tree .refusal-9);
+        refusal-10 = before 10 (omega arith) (tree .refusal-10);
+        refusal-16 = Iff·trans (line-sixteen to-tree-line line plain to-tree-reply not-16) (Iff·and named ((λ t. t), λ t. t));
+        refusal-15 = Iff·trans (line-fifteen to-tree-line line plain to-tree-reply)
+            (Iff·and ((λ t. t), λ t. t) (Iff·trans (record-refused numbers 15) (tree .refusal-15)));
+        no-other = λ r e.
+            ⊎-elim (λ (g : plain ≡ refusedAs r). inr (only r g)) (λ (g : r ≡ 16). inl g)
+            (line-only to-tree-line line plain to-tree-reply r e);
+      }
 
 -- ---- lines made of values
 
--- A tree word, and a record whose tree word is asked for.
+-- A tree word, and the digits of a record whose tree word is asked for.
 abbrev pub treeLine : Word → List ℕ
 treeLine w = itemsLine tree-line [] [] w
 
 abbrev pub toTreeLine : List ℕ → List ℕ
-toTreeLine numbers = itemsLine to-tree-line [] [] numbers
+toTreeLine r = withRecord to-tree-line [] r
 
 -- What stands in the reply to a line: the part numbers of a chain, and the letters of a tree word.
 abbrev pub numbersTold : List ℕ → List ℕ
-numbersTold ds = fields ds headBytes 2 (field ds partsAt 1)
+numbersTold ds = fields ds numbersAt 2 (field ds recordAt 1)
 
 abbrev pub lettersTold : List ℕ → List ℕ
 lettersTold ds = fields ds lettersAt 1 (field ds lettersCountAt 1)
@@ -167,11 +229,16 @@ word-reply w h fits =
     items-reply tree-line [] [] w 0 0 h refl refl refl refl (omega arith) refl refl (λ (v : Word). chainReply (ofTree v))
     (λ line. refl) fits
 
-numbers-reply : (l : List ℕ) → length l ≤ 127 → Fitting 2 l → replyTo (toTreeLine l) ≡ lettersReply (recordTree l)
-unfolding served rowOf every
-numbers-reply l h fits =
-    items-reply to-tree-line [] [] l 0 0 (omega arith) refl refl refl refl (omega arith) refl refl
-    (λ (x : List ℕ). lettersReply (recordTree x)) (λ line. refl) fits
+numbers-reply : (l : List ℕ) → length l ≤ 126 → Fitting 2 l → replyTo (toTreeLine (recordDigits l)) ≡ lettersReply (recordTree l)
+unfolding served rowOf every orSixteen
+numbers-reply l h values =
+    let line = toTreeLine (recordDigits l) in
+    let fits = record-fit to-tree-line [] l 0 refl refl refl refl (omega arith) refl values in
+    reply-fit line to-tree-line (line-fit line to-tree-line fits)
+    ∙ rw (
+      record-tells to-tree-line [] l 0 refl refl refl refl (omega arith) refl values,
+      record-values to-tree-line [] l 0 refl refl refl refl (omega arith) refl values,
+    )
 
 -- ---- every chain of n, n at least 1
 
@@ -180,7 +247,7 @@ module _ (n : ℕ) (c : List Part) (chain : ChainOf n c) (above : 1 ≤ n) (fits
   letters-fit = λ i l. omega (arith, tree-low n c above chain i l)
 
   -- Its record is replied to with its tree word, and its tree word with the chain.
-  pub chain-to-tree : replyTo (toTreeLine (map partNumber c)) ≡ servedWith (lettersDigits (treeOf c))
+  pub chain-to-tree : replyTo (toTreeLine (recordDigits (map partNumber c))) ≡ servedWith (lettersDigits (treeOf c))
   unfolding lettersReply
   chain-to-tree =
       numbers-reply (map partNumber c) (omega (arith, few-numbers n c chain fits)) (numbers-fit n c chain fits)
@@ -211,34 +278,34 @@ module _ (n : ℕ) (c : List Part) (chain : ChainOf n c) (above : 1 ≤ n) (fits
 
 -- The chain that a reply ds of the kinds 02 to 06 or 08 tells: its record gets its tree word, and that gets ds.
 pub leads-trees : (ds : List ℕ) (l : Leads ds) → 1 ≤ field ds 1 8
-    → (replyTo (toTreeLine (numbersTold ds)) ≡ servedWith (lettersDigits (treeOf (l .chain))))
+    → (replyTo (toTreeLine (recordIn ds)) ≡ servedWith (lettersDigits (treeOf (l .chain))))
     × (replyTo (treeLine (treeOf (l .chain))) ≡ servedWith ds)
 unfolding chainReply
 leads-trees ds l above =
     let n = field ds 1 8 in
     let c = l .chain in
-    let same = sym (chain-lines n c (l .sums) (number-low ds 1) .burned) ∙ rw (l .numbers) at (l .burned) in (
-      rw (l .numbers) (chain-to-tree n c (l .sums) above (number-low ds 1)),
+    let same = sym (chain-lines n c (l .sums) (number-low ds 1) .burned) ∙ rw (l .record-there) at (l .burned) in (
+      rw (l .record-there) (chain-to-tree n c (l .sums) above (number-low ds 1)),
       tree-to-chain n c (l .sums) above (number-low ds 1) ∙ same,
     )
 
 -- ---- from one kind to the other and back
 
--- ds is the reply to a line of kind 08 with the letters w. The line of kind 09 with the part numbers in ds is served with es, in
--- which w stands. The line of kind 08 with the letters in es is served with ds again.
+-- ds is the reply to a line of kind 08 with the letters w. The line of kind 09 with the record in ds is served with es, in which w
+-- stands. The line of kind 08 with the letters in es is served with ds again.
 pub record WordBack (w ds : List ℕ) : Type 0 where
   pub es : List ℕ
-  pub asked : replyTo (toTreeLine (numbersTold ds)) ≡ servedWith es
+  pub asked : replyTo (toTreeLine (recordIn ds)) ≡ servedWith es
   pub same : lettersTold es ≡ w
   pub again : replyTo (treeLine (lettersTold es)) ≡ servedWith ds
 
 -- ds is the reply to a line of kind 09 with the part numbers l. The line of kind 08 with the letters in ds is served with es, in
--- which l stands. The line of kind 09 with the part numbers in es is served with ds again.
+-- which l stands. The line of kind 09 with the record in es is served with ds again.
 pub record RecordBack (l ds : List ℕ) : Type 0 where
   pub es : List ℕ
   pub asked : replyTo (treeLine (lettersTold ds)) ≡ servedWith es
   pub same : numbersTold es ≡ l
-  pub again : replyTo (toTreeLine (numbersTold es)) ≡ servedWith ds
+  pub again : replyTo (toTreeLine (recordIn es)) ≡ servedWith ds
 
 module _ (n : ℕ) (c : List Part) (chain : ChainOf n c) (above : 1 ≤ n) (fits : n < 2 ^ 64) where
   word-back : WordBack (treeOf c) (chainDigits n (position n c) (map partNumber c))
@@ -246,19 +313,18 @@ module _ (n : ℕ) (c : List Part) (chain : ChainOf n c) (above : 1 ≤ n) (fits
       let told = letters-told n c chain above fits in
       record {
         es = lettersDigits (treeOf c);
-        asked = rw (numbers-told n c chain above fits) (chain-to-tree n c chain above fits);
+        asked = rw (record-of-chain n (position n c) (map partNumber c)) (chain-to-tree n c chain above fits);
         same = told;
         again = rw told (tree-to-chain n c chain above fits);
       }
 
   record-back : RecordBack (map partNumber c) (lettersDigits (treeOf c))
   record-back =
-      let told = numbers-told n c chain above fits in
       record {
         es = chainDigits n (position n c) (map partNumber c);
         asked = rw (letters-told n c chain above fits) (tree-to-chain n c chain above fits);
-        same = told;
-        again = rw told (chain-to-tree n c chain above fits);
+        same = numbers-told n c chain above fits;
+        again = rw (record-of-chain n (position n c) (map partNumber c)) (chain-to-tree n c chain above fits);
       }
 
 -- Any line of kind 08 that is served, and any line of kind 09 that is served.
@@ -274,6 +340,7 @@ pub to-tree-then-tree : (line ds : List ℕ) → kindOf (field line 0 1) ≡ som
     → RecordBack (itemsIn to-tree-line line) ds
 unfolding served
 to-tree-then-tree line ds first e =
-    let t = record-served (itemsIn to-tree-line line) ds .0 (served-kind line ds to-tree-line first e) in
+    let told = looked-served (tellsLargest to-tree-line line) (tells to-tree-line line) _ ds .0 (served-kind line ds to-tree-line first e) in
+    let t = record-served (itemsIn to-tree-line line) ds .0 (told .1) in
     let c = t .of in
     rw (← t .numbers, ← t .digits) at (record-back (c .n) (c .chain) (c .sums) (c .above) (c .fits))

@@ -1,12 +1,16 @@
 // The digits of a reply, written one after the other into the bytes that are lent for it: document 01, 'Frames', and document 02,
-// T-05. At least 514 bytes are lent, and every reply fits into them (`reply-short`).
+// T-05 and T-06. At least 514 bytes are lent, and every reply fits into them (`reply-short`).
+use parts::Exponents;
 ghost use mathlib.Core.Path.{_≡_};
 ghost use Prim.Native.Nat.{_+_, _-_, _*_, _≤_};
 ghost use lib.ListN.{length};
 ghost use Rattle.digits.specs.Digits.{digitsOf};
 ghost use Rattle.lent.specs.Lent.{zeros};
 ghost use Rattle.frames.specs.Put.{putAt};
-ghost use Rattle.frames.specs.ReplyDigits.{singleDigits, valuesDigits, headDigits, numbersDigits, chainDigits, lettersDigits};
+ghost use Rattle.words.specs.Walks.{point};
+ghost use Rattle.parts.specs.Parts.{largestOf};
+ghost use Rattle.frames.specs.ReplyDigits.{singleDigits, valuesDigits, numbersDigits, recordDigits, headDigits};
+ghost use Rattle.frames.specs.ReplyDigits.{chainDigits, lettersDigits};
 
 // The last k digits of n, after the first `at` bytes. Where the next digits go is told, here and below.
 fn put_at(out: &mut [u8], at: usize, k: usize, n: u64) -> usize
@@ -37,16 +41,15 @@ pub fn put_single(out: &mut [u8], x: u64) -> usize
     put_at(out, at, 16, x)
 }
 
-// 00, n, the position and the number of parts.
-fn put_head(out: &mut [u8], n: u64, position: u64, numbers: &[u16]) -> usize
+// What stands before a record: 00, n and the position.
+fn put_head(out: &mut [u8], n: u64, position: u64) -> usize
     requires { ⌜ 514 ≤ length (now out) ⌝ }
-    ensures { λ k. ⌜ k ≡ length (headDigits n position (now (numbers .entry))) ⌝ }
-    ensures { λ _. ⌜ now (out .exit) ≡ putAt 0 (headDigits n position (now (numbers .entry))) (now (out .entry)) ⌝ }
+    ensures { λ k. ⌜ k ≡ length (headDigits n position) ⌝ }
+    ensures { λ _. ⌜ now (out .exit) ≡ putAt 0 (headDigits n position) (now (out .entry)) ⌝ }
 {
     let after_zero = put_at(out, 0, 2, 0);
     let after_n = put_at(out, after_zero, 16, n);
-    let after_position = put_at(out, after_n, 16, position);
-    put_at(out, after_position, 2, numbers.len() as u64)
+    put_at(out, after_n, 16, position)
 }
 
 // The part numbers, two bytes each, after the first `at` bytes.
@@ -64,14 +67,32 @@ fn put_numbers(out: &mut [u8], at: usize, numbers: &[u16]) -> usize
     end
 }
 
-// A chain: 00, n, its position, how many parts it has, their numbers.
-pub fn put_chain(out: &mut [u8], n: u64, position: u64, numbers: &[u16]) -> usize
-    requires { ⌜ (514 ≤ length (now out)) × (length (now numbers) ≤ 64) ⌝ }
+// A record after the first `at` bytes: how many parts it has, a and b of the largest, their numbers.
+fn put_record(out: &mut [u8], at: usize, largest: Exponents, numbers: &[u16]) -> usize
+    requires { ⌜ (at + 6 + 4 * length (now numbers) ≤ length (now out)) × (point largest ≡ largestOf (now numbers)) ⌝ }
+    ensures { λ k. ⌜ k ≡ at + length (recordDigits (now (numbers .entry))) ⌝ }
+    ensures { λ _. ⌜ now (out .exit) ≡ putAt at (recordDigits (now (numbers .entry))) (now (out .entry)) ⌝ }
+{
+    let after_parts = put_at(out, at, 2, numbers.len() as u64);
+    let after_a = put_at(out, after_parts, 2, largest.a);
+    let after_b = put_at(out, after_a, 2, largest.b);
+    put_numbers(out, after_b, numbers)
+}
+
+// A chain: 00, n, its position, its record.
+pub fn put_chain(
+    out: &mut [u8],
+    n: u64,
+    position: u64,
+    largest: Exponents,
+    numbers: &[u16],
+) -> usize
+    requires { ⌜ (514 ≤ length (now out)) × (length (now numbers) ≤ 64) × (point largest ≡ largestOf (now numbers)) ⌝ }
     ensures { λ k. ⌜ k ≡ length (chainDigits n position (now (numbers .entry))) ⌝ }
     ensures { λ _. ⌜ now (out .exit) ≡ putAt 0 (chainDigits n position (now (numbers .entry))) (now (out .entry)) ⌝ }
 {
-    let at = put_head(out, n, position, numbers);
-    put_numbers(out, at, numbers)
+    let at = put_head(out, n, position);
+    put_record(out, at, largest, numbers)
 }
 
 // The price after a chain, which ends before `at`.

@@ -6,6 +6,7 @@ use best::Limits;
 use best::Prices;
 use counting::Counted;
 use lines::Items;
+use parts::Exponents;
 use ranking::Placed;
 use running::Ran;
 use words::Written;
@@ -13,16 +14,19 @@ ghost use mathlib.Core.Path.{_≡_};
 ghost use Prim.Native.Nat.{_≤_};
 ghost use lib.ListN.{length};
 ghost use Rattle.chains.specs.Best.{price};
+ghost use Rattle.parts.specs.Parts.{largestOf, samePart};
+ghost use Rattle.words.specs.Walks.{point};
 ghost use Rattle.lent.specs.Lent.{tooLittle, Enough, scratchLeft};
 ghost use Rattle.ranking.specs.Services.{lent, placesLeft};
 ghost use Rattle.best.specs.Chosen.{limitsOf, pricesOf, bestOutcome, chosenOf};
-ghost use Rattle.trees.specs.Answers.{recordTree, lentTree, treeTold, treeLeft};
+ghost use Rattle.trees.specs.Answers.{recordTree};
 ghost use Rattle.running.specs.Ran.{ranOf};
 ghost use Rattle.frames.specs.Calls.{Told, Handled, FitAs, readOnly};
-ghost use Rattle.frames.specs.Replies.{refusedAs, limitsIn, pricesIn, modulusIn, residueIn, served, replyTo};
+ghost use Rattle.frames.specs.Replies.{refusedAs, ranReply, lettersReply, limitsIn, pricesIn, modulusIn, residueIn};
+ghost use Rattle.frames.specs.Replies.{exponentsFrom, exponentsIn, orSixteen, served, replyTo};
 ghost use Rattle.lines.specs.Kinds.{count-line, best-line, at-line, record-line, word-line, next-line, run-line};
 ghost use Rattle.lines.specs.Kinds.{tree-line, to-tree-line};
-ghost use Rattle.lines.specs.Lines.{Fit, itemsIn, readItems, itemsLeft};
+ghost use Rattle.lines.specs.Lines.{Fit, readItems, itemsLeft};
 
 // A line that is refused: the scratch is zeroed as on success.
 pub fn serve_refusal(number: u8, scratch: &mut [u64], out: &mut [u8]) -> Replied
@@ -145,7 +149,18 @@ fn numbers_in(line: &[u8], numbers: &mut [u16]) -> usize
     }
 }
 
-// 04: a burned record. The reply repeats its part numbers.
+// What a line with a record tells of its largest part, from byte `at` on.
+fn exponents_in(line: &[u8], at: usize) -> Exponents
+    requires { ⌜ at ≤ 18 ⌝ }
+    ensures { λ r. ⌜ point r ≡ exponentsFrom (now (line .entry)) at ⌝ }
+{
+    Exponents {
+        a: lines::field_of(line, at, 1),
+        b: lines::field_of(line, at + 1, 1),
+    }
+}
+
+// 04: a burned record. The reply repeats its exponents and part numbers.
 pub fn serve_record(line: &[u8], scratch: &mut [u64], out: &mut [u8]) -> Replied
     requires { ⌜ Enough 514 (now scratch) (now out) × Fit (now line) record-line ⌝ }
     ensures { λ r. ⌜ Handled (served record-line (now (line .entry))) r
@@ -154,7 +169,10 @@ pub fn serve_record(line: &[u8], scratch: &mut [u64], out: &mut [u8]) -> Replied
     let mut numbers = [0u16; 255];
     let k = numbers_in(line, &mut numbers);
     match ranking::read_record(&numbers[0..k], scratch) {
-        Placed::At { n, position } => tell::tell_chain(out, n, position, &numbers[0..k]),
+        Placed::At { n, position } => {
+            let told = exponents_in(line, 2);
+            tell::tell_record(out, n, position, told, &numbers[0..k])
+        }
         Placed::Refused(number) => tell::tell_refusal(out, number),
     }
 }
@@ -185,17 +203,34 @@ pub fn serve_next(line: &[u8], scratch: &mut [u64], out: &mut [u8]) -> Replied
     tell::tell_found(out, found, &places)
 }
 
-// The run of the chain that a line of kind 07 names.
+// The run of the chain that a line of kind 07 names, by its part numbers. It is refused with 16 after all else.
+fn run_numbers(line: &[u8], numbers: &[u16]) -> Ran
+    ensures { λ r. ⌜ ranReply r
+        ≡ orSixteen (samePart (exponentsIn run-line (now (line .entry))) (largestOf (now (numbers .entry))))
+        (ranReply (ranOf (now (numbers .entry)) (modulusIn (now (line .entry))) (residueIn (now (line .entry))))) ⌝ }
+{
+    let m = lines::field_of(line, 1, 8);
+    let x = lines::field_of(line, 9, 8);
+    match running::run_chain(numbers, m, x) {
+        Ran::Residue(residue) => {
+            if parts::is_largest(exponents_in(line, 18), numbers) {
+                Ran::Residue(residue)
+            } else {
+                Ran::Refused(16)
+            }
+        }
+        Ran::Refused(number) => Ran::Refused(number),
+    }
+}
+
+// The run that a line of kind 07 asks for.
 fn run_in(line: &[u8]) -> Ran
     requires { ⌜ Fit (now line) run-line ⌝ }
-    ensures { λ r. ⌜ r
-        ≡ ranOf (itemsIn run-line (now (line .entry))) (modulusIn (now (line .entry))) (residueIn (now (line .entry))) ⌝ }
+    ensures { λ r. ⌜ ranReply r ≡ served run-line (now (line .entry)) ⌝ }
 {
     let mut numbers = [0u16; 255];
     let k = numbers_in(line, &mut numbers);
-    let m = lines::field_of(line, 1, 8);
-    let x = lines::field_of(line, 9, 8);
-    running::run_chain(&numbers[0..k], m, x)
+    run_numbers(line, &numbers[0..k])
 }
 
 // Its residue or refusal.
@@ -233,32 +268,46 @@ pub fn serve_tree(line: &[u8], scratch: &mut [u64], out: &mut [u8]) -> Replied
     tell::tell_found(out, found, &places)
 }
 
-// The tree word of the record in a line of kind 09, its letters in the places.
-fn tree_in(line: &[u8], places: &mut [u8]) -> Written
-    requires { ⌜ Fit (now line) to-tree-line ⌝ }
-    ensures { λ r. ⌜ r ≡ treeTold (lentTree (now (places .entry)) (recordTree (itemsIn to-tree-line (now (line .entry))))) ⌝ }
-    ensures { λ _. ⌜ now (places .exit)
-        ≡ treeLeft (lentTree (now (places .entry)) (recordTree (itemsIn to-tree-line (now (line .entry)))))
-        (now (places .entry)) ⌝ }
+// The number of a refusal of kind 09, by whether the line tells the exponents of the largest part: 16 comes before 15.
+fn refusal_by(number: u8, right: bool) -> u8
+    ensures { λ r. ⌜ refusedAs r ≡ orSixteen right (refusedAs number) ⌝ }
 {
-    let mut numbers = [0u16; 255];
-    let k = numbers_in(line, &mut numbers);
-    trees::write_tree(&numbers[0..k], places)
+    if right {
+        return number;
+    }
+    if number == 15 { 16 } else { number }
 }
 
-// Its letters or refusal.
+// The tree word of the record in a line of kind 09, by its part numbers.
+fn tell_tree_of(line: &[u8], numbers: &[u16], out: &mut [u8]) -> Replied
+    requires { ⌜ 514 ≤ length (now out) ⌝ }
+    ensures { λ r. ⌜ Told
+        (orSixteen (samePart (exponentsIn to-tree-line (now (line .entry))) (largestOf (now (numbers .entry))))
+        (lettersReply (recordTree (now (numbers .entry)))))
+        r (now (out .entry)) (now (out .exit)) ⌝ }
+{
+    let right = parts::is_largest(exponents_in(line, 2), numbers);
+    let mut places = [0u8; 160];
+    match trees::write_tree(numbers, &mut places) {
+        Written::Letters(k) => {
+            if !right {
+                return tell::tell_refusal(out, 16);
+            }
+            let end = k as usize;
+            tell::tell_letters(out, &places[0..end])
+        }
+        Written::Refused(number) => tell::tell_refusal(out, refusal_by(number, right)),
+    }
+}
+
+// The letters that a line of kind 09 asks for, or the refusal.
 fn tell_tree(line: &[u8], out: &mut [u8]) -> Replied
     requires { ⌜ (514 ≤ length (now out)) × Fit (now line) to-tree-line ⌝ }
     ensures { λ r. ⌜ Told (served to-tree-line (now (line .entry))) r (now (out .entry)) (now (out .exit)) ⌝ }
 {
-    let mut places = [0u8; 160];
-    match tree_in(line, &mut places) {
-        Written::Letters(k) => {
-            let end = k as usize;
-            tell::tell_letters(out, &places[0..end])
-        }
-        Written::Refused(number) => tell::tell_refusal(out, number),
-    }
+    let mut numbers = [0u16; 255];
+    let k = numbers_in(line, &mut numbers);
+    tell_tree_of(line, &numbers[0..k], out)
 }
 
 // 09: the tree word of a record's chain. The service is lent no scratch, so the scratch is zeroed here.

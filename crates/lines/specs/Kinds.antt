@@ -1,5 +1,5 @@
--- The kinds of lines and how a line of each is laid out: document 01, 'Frames', and document 02, T-02, T-04 and T-05. Nothing else
--- says which kinds there are.
+-- The kinds of lines and how a line of each is laid out: document 01, 'Frames', and document 02, T-02, T-04, T-05 and T-06. Nothing
+-- else says which kinds there are.
 -- Definitions only.
 use mathlib.Core.Bool.{true, false}
 use mathlib.Core.List.{List, [], _∷_}
@@ -13,7 +13,7 @@ pub data Kind : Type 0 where
   count-line best-line at-line record-line word-line next-line run-line tree-line to-tree-line : Kind
 
 -- How a line of a kind is laid out. Items are a record's part numbers or a word's letters. In a kind without items all bytes stand
--- before them, and their width is 0.
+-- before them, and their width is 0. In a record a and b of its largest part stand between the number of items and the items.
 pub record Row : Type 0 where
   -- The first byte of a line.
   pub byte : ℕ
@@ -31,12 +31,12 @@ unfoldable pub rowOf : Kind → Row
 rowOf count-line = row 1 9 0 0
 rowOf best-line = row 2 20 0 0
 rowOf at-line = row 3 17 0 0
-rowOf record-line = row 4 2 1 2
+rowOf record-line = row 4 4 1 2
 rowOf word-line = row 5 2 1 1
 rowOf next-line = row 6 2 1 1
-rowOf run-line = row 7 18 17 2
+rowOf run-line = row 7 20 17 2
 rowOf tree-line = row 8 2 1 1
-rowOf to-tree-line = row 9 2 1 2
+rowOf to-tree-line = row 9 4 1 2
 
 unfoldable pub kinds : List Kind
 kinds =

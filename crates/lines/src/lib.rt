@@ -87,12 +87,12 @@ fn row_of(kind: u8) -> Row
         1 => row_with(9, 0, 0),
         2 => row_with(20, 0, 0),
         3 => row_with(17, 0, 0),
-        4 => row_with(2, 1, 2),
+        4 => row_with(4, 1, 2),
         5 => row_with(2, 1, 1),
         6 => row_with(2, 1, 1),
-        7 => row_with(18, 17, 2),
+        7 => row_with(20, 17, 2),
         8 => row_with(2, 1, 1),
-        9 => row_with(2, 1, 2),
+        9 => row_with(4, 1, 2),
         _ => row_with(0, 0, 0),
     }
 }

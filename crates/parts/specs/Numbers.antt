@@ -62,7 +62,7 @@ parts-at-ranks : T (below 64 allAtRank)
 unfolding below allAtRank atRank rightly inside rank look rows
 parts-at-ranks = tt
 
-parts-in-32s : T (in-32s rows)
+pub parts-in-32s : T (in-32s rows)
 unfolding each in-32s rows
 parts-in-32s = tt
 

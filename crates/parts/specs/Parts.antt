@@ -1,6 +1,6 @@
 -- Part numbers: document 01, 'Parts and chains'. A part's number is its index in the part table, from 0.
 -- Definitions only; the theory is in Numbers.
-use mathlib.Core.Bool.{true, false, cond}
+use mathlib.Core.Bool.{Bool, true, false, cond, _&&_}
 use mathlib.Core.List.{List, [], _∷_}
 use Prim.Native.Nat.{ℕ, zero, suc, _+_, _^_, _/_, _%_}
 use lib.Dec.{ltb, eqb}
@@ -29,6 +29,19 @@ times (suc k) q v =
 -- The part of a number: the exponents of 2 and 3 in that entry of the table.
 unfoldable pub partAt : ℕ → Part
 partAt i = record { a = times 64 2 (getD parts i 0); b = times 64 3 (getD parts i 0) }
+
+-- The answer of `exponents_at`: the part with a number; 0 and 0 where no part has it.
+unfoldable pub exponentsAt : ℕ → Part
+exponentsAt i = cond (ltb i 1344) (partAt i) (record { a = 0; b = 0 })
+
+-- a and b of the largest part of a record: its number comes first. Both are 0 for the record of no parts.
+unfoldable pub largestOf : List ℕ → Part
+largestOf [] = record { a = 0; b = 0 }
+largestOf (i ∷ is) = exponentsAt i
+
+-- Whether two parts are the same: the test of `is_largest`.
+unfoldable pub samePart : Part → Part → Bool
+samePart p q = eqb (p .a) (q .a) && eqb (p .b) (q .b)
 
 -- ---- from a part to its number
 

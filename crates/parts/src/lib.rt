@@ -1,5 +1,6 @@
 // Parts 2^a × 3^b below 2^64 and their numbers in the part table.
 pub mod codes;
+mod octaves;
 pub mod table;
 
 ghost use mathlib.Core.Logic.{_↔_};
@@ -7,7 +8,7 @@ ghost use mathlib.Core.Path.{_≡_};
 ghost use mathlib.Core.Bool.{true};
 ghost use lib.ListN.{getD};
 ghost use Rattle.chains.specs.Chains.{Part, value, ProperMultiple};
-ghost use Rattle.parts.specs.Parts.{partNumber, numberOf, sumAt, sumOf};
+ghost use Rattle.parts.specs.Parts.{exponentsAt, largestOf, samePart, partNumber, numberOf, sumAt, sumOf};
 
 // A part's exponents.
 pub struct Exponents {
@@ -52,6 +53,24 @@ pub fn exponents_of(v: u64) -> Exponents
     }
 }
 
+// The exponents of the part with a number; 0 and 0 where no part has it, from 1344 on. By arithmetic alone: the octave of the
+// number, that has its parts from 2^l up to below 2^(l+1), and its place there. For b up to 40, 3^b has 1623 b / 1024 binary digits
+// after the first, so the part of octave l with 3^b has a = l - 1623 b / 1024.
+pub fn exponents_at(number: u16) -> Exponents
+    ensures { λ r. ⌜ record { a = r .a; b = r .b } ≡ exponentsAt number ⌝ }
+{
+    if number >= 1344 {
+        return Exponents { a: 0, b: 0 };
+    }
+    let i = number as u64;
+    let l = octaves::octave_at(i);
+    let first = octaves::parts_below(l);
+    let most = octaves::parts_below(l + 1) - first - 1;
+    let b = octaves::triplings_at(most, i - first);
+    let a = l - 1623 * b / 1024;
+    Exponents { a: a, b: b }
+}
+
 // How many entries of the table are smaller than 2^a × 3^b. Below 2^64 this is the part's number; else it is 1344, which is no
 // part's number.
 pub fn part_number(a: u64, b: u64) -> u16
@@ -80,6 +99,35 @@ pub fn number_of(a: u64, b: u64) -> Number
     }
     let number = a * b + (b * (203 * b + 328) + 180) / 256 + (a * (323 * a + 832) + 400) / 1024;
     Number::At(number as u16)
+}
+
+// The number of a record's largest part, which comes first; 1344, which is no part's number, for the record of no parts.
+fn first_of(numbers: &[u16]) -> u16
+    ensures { λ r. ⌜ exponentsAt r ≡ largestOf (now (numbers .entry)) ⌝ }
+{
+    if numbers.len() == 0 {
+        return 1344;
+    }
+    numbers[0]
+}
+
+// The exponents of a record's largest part. Both are 0 for the record of no parts, and where no part has the first number.
+pub fn largest_of(numbers: &[u16]) -> Exponents
+    ensures { λ r. ⌜ record { a = r .a; b = r .b } ≡ largestOf (now (numbers .entry)) ⌝ }
+{
+    exponents_at(first_of(numbers))
+}
+
+// Whether exponents are those of a record's largest part. The number that they have is compared with the first number: this takes
+// less time than to work out the exponents of the first number.
+pub fn is_largest(told: Exponents, numbers: &[u16]) -> bool
+    ensures { λ r. ⌜ r ≡ samePart (record { a = told .a; b = told .b }) (largestOf (now (numbers .entry))) ⌝ }
+{
+    let first = first_of(numbers);
+    if first >= 1344 {
+        return (told.a == 0) & (told.b == 0);
+    }
+    part_number(told.a, told.b) == first
 }
 
 // Whether x is a proper multiple of y.

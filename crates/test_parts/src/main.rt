@@ -1,5 +1,5 @@
-// Prints each part number with its value, its exponents and the number that these have; then numbers at the edges of the table, and
-// sums that just fit and just do not.
+// Prints each part number with its value, the value's exponents and the number that these have, and the exponents told from the number;
+// then numbers at the edges of the table, exponents of numbers past it, and sums that just fit and just do not.
 use libc::STDOUT_FILENO;
 use parts::Number;
 use parts::Sum;
@@ -29,6 +29,14 @@ fn print_number(a: u64, b: u64) {
     }
 }
 
+fn print_exponents(number: u16) {
+    let exponents = parts::exponents_at(number);
+    print(exponents.a);
+    space();
+    print(exponents.b);
+    end_line();
+}
+
 // One line of the table.
 fn print_entry(table: &[u64], number: u16) {
     let value = parts::value_of(table, number);
@@ -42,7 +50,15 @@ fn print_entry(table: &[u64], number: u16) {
     print(exponents.b);
     space();
     print_number(exponents.a, exponents.b);
-    end_line();
+    space();
+    print_exponents(number);
+}
+
+// Numbers that no part has.
+fn print_past() {
+    print_exponents(1344);
+    print_exponents(1345);
+    print_exponents(u16::MAX);
 }
 
 fn print_point(a: u64, b: u64) {
@@ -130,5 +146,6 @@ fn main() {
     print(largest());
     end_line();
     print_points();
+    print_past();
     print_sums(&table);
 }

@@ -1,4 +1,4 @@
--- `put_chain` leaves the numbers right after the head.
+-- `put_chain` leaves the record right after the head.
 use mathlib.Core.Path.{sym}
 use native.Mathlib.Omega.{arith}
 use borrow.Author.Needs.{needs}
@@ -8,11 +8,10 @@ use Rattle.frames.specs.ReplyDigitLaws.{length-head}
 use Rattle.frames.proofs.put.put_chain.Statement.{statement}
 use Rattle.frames.proofs.put.put_chain.Tie as tie
 
-put-numbers-requires : tie.Need-put-numbers-requires
-put-numbers-requires c κs =
-    let h = c .before .before .before in
-    let a = h .before .before .before .before .args in
-    omega (arith, length-head (a .n) (a .position) (a .numbers .now))
+put-record-requires : tie.Need-put-record-requires
+put-record-requires c κs =
+    let s = c .before .before .before .before .before .before .before in
+    (omega (arith, length-head (s .args .n) (s .args .position)), s .pre .2)
 
 returns : tie.Need-returns
 unfolding chainDigits
@@ -22,8 +21,8 @@ returns c =
     let a = h .before .before .before .before .args in
     let out = a .out .now in
     let head = at-start _ _ out _ (sym (h .put-head .ensures .0)) (h .put-head .ensures .1) in
-    let room = length-head (a .n) (a .position) (a .numbers .now) in
-    from-start _ _ _ _ (one-more 0 _ _ _ _ out _ _ head (omega arith) (p .put-numbers .ensures .1) (p .put-numbers .ensures .0))
+    let room = length-head (a .n) (a .position) in
+    from-start _ _ _ _ (one-more 0 _ _ _ _ out _ _ head (omega arith) (p .put-record .ensures .1) (p .put-record .ensures .0))
 
 pub put-chain-spec : {M : Type 1} → statement M
-put-chain-spec = tie.close (tie.spec (λ c κs. search needs) put-numbers-requires (λ c. search needs) returns)
+put-chain-spec = tie.close (tie.spec (λ c κs. search needs) put-record-requires (λ c. search needs) returns)

@@ -12,7 +12,7 @@ returns c =
     let p₂ = c .before .before in
     let p₁ = p₂ .before .before .before .before in
     let out = p₁ .before .before .before .args .out .now in
-    let s₁ = first-digits 2 0 _ out _ (p₁ .put-at .ensures .0) (p₁ .put-at .ensures .1) in
+    let s₁ = first-digits 0 2 0 _ out _ (p₁ .put-at .ensures .0) (p₁ .put-at .ensures .1) in
     let s₂ = more-digits 0 _ 16 _ _ _ out _ _ s₁ (omega arith) (p₂ .put-at2 .ensures .0) (p₂ .put-at2 .ensures .1) in
     from-start _ _ _ _ s₂
 

@@ -1,6 +1,8 @@
 -- `serve_record` replies with the record's own numbers: they are the part numbers of the chain that reading the record finds, and
--- so at most 64.
+-- so at most 64. 15 is no refusal of a record, so 16 comes after all of them.
 use mathlib.Core.Path.{_≡_, refl, ap}
+use mathlib.Core.Logic.{⊎-elim}
+use mathlib.Core.Bool.{Bool}
 use mathlib.Core.List.{List}
 use Prim.Native.Nat.{ℕ, _≤_}
 use native.Mathlib.Omega.{arith}
@@ -12,11 +14,13 @@ use Rattle.chains.specs.Bounds.{parts-bound}
 use Rattle.parts.specs.Parts.{partNumber}
 use Rattle.ranking.specs.Services.{Outcome, refused, gives, lentScratch, placedOf, ofRecord}
 use Rattle.ranking.specs.Outcomes.{record-gives}
+use Rattle.ranking.specs.Refusals.{record-refusals}
 use Rattle.ranking.specs.declared.Placed.{Placed}
 use Rattle.ranking.specs.declared.Placed.the-variants as placed
 use Rattle.lines.specs.Kinds.{record-line, rowOf}
 use Rattle.frames.specs.ReplyDigits.{chainDigits}
-use Rattle.frames.specs.Replies.{Reply, refusedAs, servedWith, chainReply, served}
+use Rattle.frames.specs.Replies.{Reply, refusedAs, servedWith, chainReply, orSixteen, served}
+use Rattle.frames.specs.RecordLines.{outcome-refused, or-refused}
 use Rattle.frames.specs.Calls.{Told, Handled}
 use Rattle.frames.specs.declared.Replied.{Replied}
 use Rattle.frames.proofs.CallLaws.{read-room, read-all}
@@ -56,68 +60,81 @@ module _ (l s : List ℕ) (x : Placed) (room : scratchSize ≤ length s) (e : x 
           let z : _≡_ {A = ℕ} 0 1 = cc (rw g at own) in
           absurd (omega arith)
 
-  handled : (y : Reply) (r : Replied) (s′ out out′ : List ℕ) → chainReply (ofRecord l) ≡ y → s′ ≡ scratchLeft (littleScratch s) s
-      → Told y r out out′ → Handled (chainReply (ofRecord l)) r s s′ out out′
+  -- The reply without the two bytes, or 16.
+  abbrev reply : Bool → Reply
+  reply right = orSixteen right (chainReply (ofRecord l))
+
+  refused-reply : (right : Bool) (r : ℕ) → x ≡ placed.Refused r → reply right ≡ refusedAs r
+  refused-reply right r f =
+      let e = not-placed r f in
+      rw e
+      (or-refused right r (λ g.
+      ⊎-elim (λ (h : r ≡ 8). omega arith) (⊎-elim (λ (h : r ≡ 9). omega arith) (λ (h : r ≡ 10). omega arith))
+      (record-refusals l .no-other r (outcome-refused (ofRecord l) r .0 e))))
+
+  handled : (right : Bool) (y : Reply) (r : Replied) (s′ out out′ : List ℕ) → reply right ≡ y → s′ ≡ scratchLeft (littleScratch s) s
+      → Told y r out out′ → Handled (reply right) r s s′ out out′
   unfolding scratchLeft
-  handled y r s′ out out′ f left told =
+  handled right y r s′ out out′ f left told =
       record { told = rw f told; zeroed = rw (scratch-enough s room) at left }
 
 part-read-record-end : tie.Need-part-read-record-end
 unfolding rowOf
 part-read-record-end c =
-    let l = c .before .before in
-    let s = l .before .before .before .before .before in
+    let q = c .before .before in
+    let s = q .before .before .before .before .before in
     omega (
       arith,
-      read-room record-line _ _ _ (s .pre .1) (l .numbers-in .ensures .0) (omega arith) _ _ (l .numbers-in .ensures .1)
+      read-room record-line _ _ _ (s .pre .1) (q .numbers-in .ensures .0) (omega arith) _ _ (q .numbers-in .ensures .1)
           (omega arith) (omega arith),
     )
 
-part-tell-chain-end : tie.Need-part-tell-chain-end
+part-tell-record-end : tie.Need-part-tell-record-end
 unfolding rowOf
-part-tell-chain-end c =
-    let l = c .before .before .before .before .before .before .before .before .before .before .before .before in
-    let s = l .before .before .before .before .before in
+part-tell-record-end c =
+    let q = c .before .before .before .before .before .before .before .before .before .before .before .before .before in
+    let s = q .before .before .before .before .before in
     omega (
       arith,
-      read-room record-line _ _ _ (s .pre .1) (l .numbers-in .ensures .0) (omega arith) _ _ (l .numbers-in .ensures .1)
+      read-room record-line _ _ _ (s .pre .1) (q .numbers-in .ensures .0) (omega arith) _ _ (q .numbers-in .ensures .1)
           (omega arith) (omega arith),
     )
 
-tell-chain-requires : tie.Need-tell-chain-requires
-tell-chain-requires c κs =
-    let m = c .before .before .before .before in
-    let q = m .before .before .before .before in
-    let s = q .before .before .before .before .before .before .before .before .before .before in
-    (omega arith, at-position _ (s .args .scratch .now) _ (s .pre .0 .numbers) (q .read-record .ensures .0) _ _ (m .n .given .1) .0)
+tell-record-requires : tie.Need-tell-record-requires
+tell-record-requires c κs =
+    let m = c .before .before .before .before .before in
+    let p = m .before .before .before .before in
+    let s = p .before .before .before .before .before .before .before .before .before .before in
+    (omega arith, at-position _ (s .args .scratch .now) _ (s .pre .0 .numbers) (p .read-record .ensures .0) _ _ (m .n .given .1) .0)
 
 returns : tie.Need-returns
 unfolding served rowOf
 returns c =
     let t = c .before .before in
-    let m = t .before .before .before .before .before in
-    let q = m .before .before .before .before in
-    let l = q .before .before .before .before .before in
-    let s = l .before .before .before .before .before in
-    let w = read-all record-line _ _ _ (s .pre .1) (l .numbers-in .ensures .0) (omega arith) _ _ (l .numbers-in .ensures .1) in
+    let told = t .before .before .before .before in
+    let m = told .before .before in
+    let p = m .before .before .before .before in
+    let q = p .before .before .before .before .before in
+    let s = q .before .before .before .before .before in
+    let w = read-all record-line _ _ _ (s .pre .1) (q .numbers-in .ensures .0) (omega arith) _ _ (q .numbers-in .ensures .1) in
+    let reply = at-position _ (s .args .scratch .now) _ (s .pre .0 .numbers) (p .read-record .ensures .0) _ _ (m .n .given .1) .1 in
     rw (← w)
-    (handled _ _ _ (s .pre .0 .numbers) (q .read-record .ensures .0) _ _ _ _ _
-    (at-position _ (s .args .scratch .now) _ (s .pre .0 .numbers) (q .read-record .ensures .0) _ _ (m .n .given .1) .1)
-    (q .read-record .ensures .1) (t .tell-chain .ensures))
+    (handled _ _ _ (s .pre .0 .numbers) (p .read-record .ensures .0) _ _ _ _ _ _
+    (rw (reply, told .exponents-in .ensures)) (p .read-record .ensures .1) (t .tell-record .ensures))
 
 returns-2 : tie.Need-returns-2
 unfolding served rowOf
 returns-2 c =
     let t = c .before .before in
     let m = t .before .before .before in
-    let q = m .before .before .before .before in
-    let l = q .before .before .before .before .before in
-    let s = l .before .before .before .before .before in
-    let w = read-all record-line _ _ _ (s .pre .1) (l .numbers-in .ensures .0) (omega arith) _ _ (l .numbers-in .ensures .1) in
+    let p = m .before .before .before .before in
+    let q = p .before .before .before .before .before in
+    let s = q .before .before .before .before .before in
+    let w = read-all record-line _ _ _ (s .pre .1) (q .numbers-in .ensures .0) (omega arith) _ _ (q .numbers-in .ensures .1) in
     rw (← w)
-    (handled _ _ _ (s .pre .0 .numbers) (q .read-record .ensures .0) _ _ _ _ _
-    (not-placed _ (s .args .scratch .now) _ (s .pre .0 .numbers) (q .read-record .ensures .0) _ (m .number .given .1))
-    (q .read-record .ensures .1) (t .tell-refusal .ensures))
+    (handled _ _ _ (s .pre .0 .numbers) (p .read-record .ensures .0) _ _ _ _ _ _
+    (refused-reply _ (s .args .scratch .now) _ (s .pre .0 .numbers) (p .read-record .ensures .0) _ _ (m .number .given .1))
+    (p .read-record .ensures .1) (t .tell-refusal .ensures))
 
 pub serve-record-spec : {M : Type 1} → statement M
 serve-record-spec =
@@ -130,10 +147,11 @@ serve-record-spec =
     part-read-record-end
     (λ c κs. search needs)
     (λ c. search needs)
+    (λ c κs. search needs)
     (λ c. search needs)
     (λ c. search needs)
-    part-tell-chain-end
-    tell-chain-requires
+    part-tell-record-end
+    tell-record-requires
     (λ c. search needs)
     (λ c κs. search needs)
     (λ c. search needs)

@@ -6,21 +6,21 @@ use Rattle.frames.proofs.CallLaws.{found-chain, found-refused}
 use Rattle.frames.proofs.tell.tell_found.Statement.{statement}
 use Rattle.frames.proofs.tell.tell_found.Tie as tie
 
-part-tell-chain-end : tie.Need-part-tell-chain-end
-part-tell-chain-end c =
-    let s = c .before .before .before .before .before .before in
-    omega (arith, found-chain _ (s .args .places .now) _ _ _ (c .before .before .found .given .1) .0)
+part-numbers-end : tie.Need-part-numbers-end
+part-numbers-end c =
+    let s = c .before .before .before .before .before in
+    omega (arith, found-chain _ (s .args .places .now) _ _ _ (c .before .found .given .1) .0)
 
 tell-chain-requires : tie.Need-tell-chain-requires
 tell-chain-requires c κs =
-    let s = c .before .before .before .before .before .before .before in
-    let k = found-chain _ (s .args .places .now) _ _ _ (c .before .before .before .found .given .1) .0 in
-    (omega arith, rw length-take (omega arith))
+    let s = c .before .before .before .before .before .before .before .before in
+    let k = found-chain _ (s .args .places .now) _ _ _ (c .before .before .before .before .found .given .1) .0 in
+    (omega arith, rw length-take (omega arith), c .largest-of .ensures)
 
 returns : tie.Need-returns
 returns c =
     let t = c .before .before in
-    rw (found-chain _ _ _ _ _ (t .before .before .before .before .found .given .1) .1) (t .tell-chain .ensures)
+    rw (found-chain _ _ _ _ _ (t .before .before .before .before .before .found .given .1) .1) (t .tell-chain .ensures)
 
 returns-2 : tie.Need-returns-2
 returns-2 c =
@@ -34,7 +34,8 @@ tell-found-spec =
     (λ c. search needs)
     (λ c. search needs)
     (λ c. search needs)
-    part-tell-chain-end
+    part-numbers-end
+    (λ c κs. search needs)
     tell-chain-requires
     (λ c. search needs)
     (λ c κs. search needs)

@@ -11,13 +11,13 @@ use Rattle.frames.proofs.tell.tell_priced.Tie as tie
 
 put-price-requires : tie.Need-put-price-requires
 put-price-requires c κs =
-    let a = c .before .before .before .before .before .before .before .args in
+    let a = c .before .before .before .before .before .before .before .before .args in
     let long = length-chain (a .n) (a .position) (a .numbers .now) in
     (omega arith, omega arith)
 
 fill-requires : tie.Need-fill-requires
 fill-requires c κs =
-    let a = c .before .before .before .before .before .before .before .before .before .before .before .args in
+    let a = c .before .before .before .before .before .before .before .before .before .before .before .before .args in
     let long = length-chain (a .n) (a .position) (a .numbers .now) in
     (omega arith, omega arith)
 
@@ -27,7 +27,7 @@ returns c =
     let f = c .before .before in
     let p = f .before .before .before .before in
     let q = p .before .before .before .before in
-    let a = q .before .before .before .before .args in
+    let a = q .before .before .before .before .before .args in
     let out = a .out .now in
     let long = length-chain (a .n) (a .position) (a .numbers .now) in
     let chain = at-start _ _ out _ (sym (q .put-chain .ensures .0)) (q .put-chain .ensures .1) in
@@ -39,6 +39,7 @@ pub tell-priced-spec : {M : Type 1} → statement M
 tell-priced-spec =
     tie.close
     (tie.spec
+    (λ c κs. search needs)
     (λ c κs. search needs)
     put-price-requires
     fill-requires
