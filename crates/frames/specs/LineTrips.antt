@@ -36,7 +36,7 @@ use Rattle.frames.specs.ReplyDigitLaws.{length-values, length-largest, l
 use Rattle.frames.specs.ReadBack.{Fitting, field-after, field-first, fields-after, fields-first, a-read, b-read, ChainRead}
 use Rattle.frames.specs.Replies.{Reply, refusedAs, servedWith, chainReply, exponentsFrom, exponentsIn, tellsLargest}
 use Rattle.frames.specs.Replies.{orSixteen, served, replyRowOf, replyTo}
-use Rattle.frames.specs.ServedLaws.{Sound, made}
+use Rattle.frames.specs.ServedLaws.{Sound, looked-right, made}
 use Rattle.frames.specs.ReplyLaws.{reply-fit, served-kind, numbers-fit, position-low, reply-read}
 
 -- ---- lines made of values
@@ -179,13 +179,13 @@ module _ (k : Kind) (front l : List ℕ) (f : ℕ) (wide : rowOf k .width ≡ 2)
   largest-written : allDigits (largestDigits l) ≡ true
   largest-written = simp (every-append, allDigits-digits)
 
-  pub record-fit : Fit line k
+  record-fit : Fit line k
   record-fit =
       rw as-items
       (items-line-fit k front (largestDigits l) l f 2 (omega arith) front-long (length-largest l) count-place items-place
       (rw wide short) front-digits largest-written)
 
-  pub record-values : itemsIn k line ≡ l
+  record-values : itemsIn k line ≡ l
   record-values =
       rw as-items
       (items-values k front (largestDigits l) l f 2 (omega arith) front-long (length-largest l) count-place items-place
@@ -202,20 +202,20 @@ module _ (k : Kind) (front l : List ℕ) (f : ℕ) (wide : rowOf k .width ≡ 2)
       let b-at : 1 + f + 1 + 1 ≡ 1 + f + 2 = omega arith in
       rw (count-place, b-at, at 1, at 2, a-read l [] (omega arith), b-read l [] (omega arith))
 
-  pub record-tells : tellsLargest k line ≡ true
-  record-tells = rw (record-told, record-values) (same-part (largestOf l) (largestOf l) .1 refl)
+  tells-largest : tellsLargest k line ≡ true
+  tells-largest = rw (record-told, record-values) (same-part (largestOf l) (largestOf l) .1 refl)
+
+  -- Its reply is that to its numbers.
+  pub record-line-reply : (reply : List ℕ → Reply) → served k line ≡ orSixteen (tellsLargest k line) (reply (itemsIn k line))
+      → replyTo line ≡ reply l
+  record-line-reply reply e =
+      reply-fit line k (line-fit line k record-fit) ∙ e ∙ looked-right _ _ tells-largest ∙ ap reply record-values
 
 -- The replies to a record, a word, and a word for the next chain.
 pub record-reply : (l : List ℕ) → length l ≤ 126 → Fitting 2 l → replyTo (recordLine (recordDigits l)) ≡ chainReply (ofRecord l)
-unfolding served rowOf every orSixteen
+unfolding served rowOf every
 record-reply l h values =
-    let line = recordLine (recordDigits l) in
-    let fits = record-fit record-line [] l 0 refl refl refl refl (omega arith) refl values in
-    reply-fit line record-line (line-fit line record-line fits)
-    ∙ rw (
-      record-tells record-line [] l 0 refl refl refl refl (omega arith) refl values,
-      record-values record-line [] l 0 refl refl refl refl (omega arith) refl values,
-    )
+    record-line-reply record-line [] l 0 refl refl refl refl (omega arith) refl values (λ (x : List ℕ). chainReply (ofRecord x)) refl
 
 module _ (w : Word) (h : length w ≤ 255) (fits : Fitting 1 w) where
   pub word-reply : replyTo (wordLine w) ≡ chainReply (ofWord w)

@@ -10,7 +10,7 @@ use mathlib.Core.List.{List, [], map}
 use mathlib.Core.Option.{some}
 use Prim.Native.Nat.{ℕ, _+_, _*_, _^_, _≤_, _<_}
 use native.Mathlib.Omega.{arith}
-use borrow.Author.Tests.{ne-eqb, eqb-true, eqb-false}
+use borrow.Author.Tests.{eqb-true, eqb-false}
 use lib.Dec.{eqb}
 use lib.ListN.{length}
 use Rattle.chains.specs.Chains.{Chained, total}
@@ -42,20 +42,6 @@ LargestTold k line = exponentsIn k line ≡ largestOf (itemsIn k line)
 
 pub tells : (k : Kind) (line : List ℕ) → (tellsLargest k line ≡ true) ↔ LargestTold k line
 tells k line = same-part (exponentsIn k line) (largestOf (itemsIn k line))
-
--- The reply x without the two bytes, where they are right, where they are wrong, and where x is a refusal other than 15.
-pub or-right : (b : Bool) (x : Reply) → b ≡ true → orSixteen b x ≡ x
-unfolding orSixteen
-or-right b x e = rw e
-
-pub or-wrong : (b : Bool) (ds : List ℕ) → b ≡ false → orSixteen b (servedWith ds) ≡ refusedAs 16
-unfolding orSixteen
-or-wrong b ds e = rw e
-
-pub or-refused : (b : Bool) (r : ℕ) → ¬ (r ≡ 15) → orSixteen b (refusedAs r) ≡ refusedAs r
-unfolding orSixteen
-or-refused true r h = refl
-or-refused false r h = rw (ne-eqb r 15 h)
 
 -- A refusal has one number, and is no reply that serves; false is not true.
 number-of : {q r : ℕ} → refusedAs q ≡ refusedAs r → q ≡ r

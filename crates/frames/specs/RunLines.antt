@@ -25,14 +25,13 @@ use Rattle.digits.specs.Digits.{isDigit, every, digitsOf}
 use Rattle.digits.specs.DigitLaws.{every-append, length-digits, allDigits-digits}
 use Rattle.lines.specs.Kinds.{run-line, rowOf}
 use Rattle.lines.specs.Lines.{field, itemsIn, fit, shapeOf}
-use Rattle.lines.specs.LineLaws.{line-fit}
 use Rattle.frames.specs.ReplyDigits.{singleDigits, recordDigits}
 use Rattle.frames.specs.ReadBack.{Fitting, field-after, field-first, single-read}
 use Rattle.frames.specs.Replies.{Reply, refusedAs, servedWith, ranReply, modulusIn, residueIn, tellsLargest, orSixteen}
 use Rattle.frames.specs.Replies.{served, replyTo}
 use Rattle.frames.specs.ServedLaws.{few-numbers, number-low}
 use Rattle.frames.specs.ReplyLaws.{reply-fit, numbers-fit}
-use Rattle.frames.specs.LineTrips.{withRecord, recordIn, record-fit, record-values, record-tells, Leads}
+use Rattle.frames.specs.LineTrips.{withRecord, recordIn, record-line-reply, Leads}
 use Rattle.frames.specs.RecordLines.{LargestTold, Open, Named, line-served, line-before, line-sixteen, line-only}
 
 -- ---- served and refused
@@ -172,17 +171,12 @@ module _ (m x : ℕ) (numbers : List ℕ) (few : length numbers ≤ 118) (values
       ∙ rw append-assoc (field-after 8 0 8 (digitsOf 16 m) _ (length-digits 16 m) ∙ field-first 8 x _ (omega arith))
 
   run-reply : replyTo line ≡ ranReply (ranOf numbers m x)
-  unfolding served rowOf every orSixteen
+  unfolding served rowOf every
   run-reply =
       let written : every isDigit front ≡ true = simp (every-append, allDigits-digits) in
-      let fits = record-fit run-line front numbers 16 refl front-long refl refl (omega arith) written values in
-      reply-fit line run-line (line-fit line run-line fits)
-      ∙ rw (
-        record-tells run-line front numbers 16 refl front-long refl refl (omega arith) written values,
-        record-values run-line front numbers 16 refl front-long refl refl (omega arith) written values,
-        line-modulus,
-        line-residue,
-      )
+      record-line-reply run-line front numbers 16 refl front-long refl refl (omega arith) written values
+      (λ (l : List ℕ). ranReply (ranOf l (modulusIn line) (residueIn line))) refl
+      ∙ rw (line-modulus, line-residue)
 
 -- ---- every chain of n
 

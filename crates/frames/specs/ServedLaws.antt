@@ -9,7 +9,7 @@ use mathlib.Core.List.{List, [], _∷_, map}
 use mathlib.Core.Option.{Option, none, some}
 use Prim.Native.Nat.{ℕ, _+_, _*_, _%_, _^_, _≤_, _<_}
 use native.Mathlib.Omega.{arith}
-use borrow.Author.Tests.{eq-eqb, eqb-true}
+use borrow.Author.Tests.{eq-eqb, ne-eqb, eqb-true}
 use lib.Dec.{T, eqb}
 use lib.ListN.{length, length-map}
 use Rattle.chains.specs.Chains.{Part, ChainOf}
@@ -232,7 +232,22 @@ record-tree-short l w e =
     let (n, c, chain, above, fits, numbers, word) = record-tree l w e in
     rw word (tree-short n c above chain fits)
 
--- A line with a record: the reply x, or 16. Its refusals are those of x, and 16.
+-- A line with a record, whose reply without a and b is x: where they are right, where they are wrong and x serves, and where x is a
+-- refusal other than 15.
+pub looked-right : (b : Bool) (x : Reply) → b ≡ true → orSixteen b x ≡ x
+unfolding orSixteen
+looked-right b x e = rw e
+
+pub looked-wrong : (b : Bool) (ds : List ℕ) → b ≡ false → orSixteen b (servedWith ds) ≡ refusedAs 16
+unfolding orSixteen
+looked-wrong b ds e = rw e
+
+pub looked-refused : (b : Bool) (r : ℕ) → ¬ (r ≡ 15) → orSixteen b (refusedAs r) ≡ refusedAs r
+unfolding orSixteen
+looked-refused true r h = refl
+looked-refused false r h = rw (ne-eqb r 15 h)
+
+-- Its refusals are those of x, and 16.
 module _ (rs more : List ℕ) (kept : every (λ (r : ℕ). among r more) rs ≡ true) (sixteen : T (among 16 more)) where
   still : (r : ℕ) → T (among r rs) → T (among r more)
   still r t = rw (among-passes (λ (q : ℕ). among q more) r rs kept t) tt

@@ -28,13 +28,12 @@ use Rattle.trees.specs.AnswerLaws.{chain-tree-written, chain-tree-read, tree-sh
 use Rattle.digits.specs.Digits.{every}
 use Rattle.lines.specs.Kinds.{tree-line, to-tree-line, rowOf, kindOf}
 use Rattle.lines.specs.Lines.{field, fields, itemsIn, fit, shapeOf}
-use Rattle.lines.specs.LineLaws.{line-fit}
 use Rattle.frames.specs.ReplyDigits.{recordDigits, recordAt, numbersAt, chainDigits, lettersDigits, lettersCountAt, lettersAt}
 use Rattle.frames.specs.ReadBack.{Fitting, ChainRead, letters-read}
 use Rattle.frames.specs.Replies.{Reply, refusedAs, servedWith, chainReply, lettersReply, tellsLargest, orSixteen, served, replyTo}
 use Rattle.frames.specs.ServedLaws.{few-numbers, number-low}
 use Rattle.frames.specs.ReplyLaws.{reply-fit, served-kind, numbers-fit, reply-read}
-use Rattle.frames.specs.LineTrips.{itemsLine, wordLine, withRecord, recordIn, items-reply, record-fit, record-values, record-tells}
+use Rattle.frames.specs.LineTrips.{itemsLine, wordLine, withRecord, recordIn, items-reply, record-line-reply}
 use Rattle.frames.specs.LineTrips.{Leads, chain-lines, record-of-chain}
 use Rattle.frames.specs.RecordLines.{LargestTold, Open, Named, outcome-refused, looked-served, tells}
 use Rattle.frames.specs.RecordLines.{line-served, line-before, line-fifteen, line-sixteen, line-only}
@@ -230,15 +229,9 @@ word-reply w h fits =
     (λ line. refl) fits
 
 numbers-reply : (l : List ℕ) → length l ≤ 126 → Fitting 2 l → replyTo (toTreeLine (recordDigits l)) ≡ lettersReply (recordTree l)
-unfolding served rowOf every orSixteen
+unfolding served rowOf every
 numbers-reply l h values =
-    let line = toTreeLine (recordDigits l) in
-    let fits = record-fit to-tree-line [] l 0 refl refl refl refl (omega arith) refl values in
-    reply-fit line to-tree-line (line-fit line to-tree-line fits)
-    ∙ rw (
-      record-tells to-tree-line [] l 0 refl refl refl refl (omega arith) refl values,
-      record-values to-tree-line [] l 0 refl refl refl refl (omega arith) refl values,
-    )
+    record-line-reply to-tree-line [] l 0 refl refl refl refl (omega arith) refl values (λ (x : List ℕ). lettersReply (recordTree x)) refl
 
 -- ---- every chain of n, n at least 1
 
