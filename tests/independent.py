@@ -415,10 +415,21 @@ def times_divided(value, by):
 
 
 def check_exponents():
-    """a and b of each part say how often its value can be halved and thirded. No part has bytes above 63 and 40."""
+    """a and b of each part say how often its value can be halved and thirded. No part has bytes above 63 and 40.
+
+    Some replies are written out: 18 + 1 with the bytes of 12 gets 16 in each of the three kinds, a sum of 2^64 or more gets 10 with any bytes,
+    and the empty record gets 15 in kind 09 only with 0 and 0.
+    """
     for chain in ([p] for p in TABLE):
         assert exponents(chain) == (times_divided(sum_of(chain), 2), times_divided(sum_of(chain), 3))
     assert max(a for a, _ in TABLE) == 63 and max(b for _, b in TABLE) == 40 and exponents([]) == (0, 0)
+    run = "07" + "0000000000000065" + "0000000000000007"
+    written = {"0402010200090000": chain_reply(19, [(1, 2), (0, 0)]), "0402020100090000": "10", "0902020100090000": "10"}
+    written |= {run + "02010200090000": residue_reply(32), run + "02020100090000": "10", "04023E01052F0506": "0A", "04020000052F0506": "0A"}
+    written |= {"09000000": "0F", "09000001": "10", "04000000": chain_reply(0, []), "04000100": "10", run + "000001": "10"}
+    written |= {"0401FFFFFFFF": "08", "0402010200090009": "09"}
+    for line, reply in written.items():
+        assert reply_to(line.encode()) == reply, line
 
 
 def check_one_price():

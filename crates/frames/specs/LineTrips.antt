@@ -21,7 +21,7 @@ use Rattle.chains.specs.Listing.{count, position}
 use Rattle.chains.specs.Readers.{readers-good}
 use Rattle.chains.specs.RoundTrip.{word-reads}
 use Rattle.chains.specs.Bounds.{word-bound, parts-bound}
-use Rattle.parts.specs.Parts.{partNumber, largestOf}
+use Rattle.parts.specs.Parts.{partNumber, largestPart, largestOf}
 use Rattle.parts.specs.Largest.{same-part}
 use Rattle.ranking.specs.Services.{Outcome, refused, gives, atPosition, ofWord, nextOf, ofRecord}
 use Rattle.ranking.specs.Outcomes.{at-past, at-chain, of-chain, next-below, next-last, record-chain}
@@ -30,14 +30,14 @@ use Rattle.digits.specs.DigitLaws.{every-append, length-digits, allDigits-digit
 use Rattle.lines.specs.Kinds.{Kind, at-line, record-line, word-line, next-line, rowOf, kindOf}
 use Rattle.lines.specs.Lines.{field, fields, countIn, bytesIn, itemsIn, Fit}
 use Rattle.lines.specs.LineLaws.{line-fit, kind-byte, row-small}
-use Rattle.frames.specs.ReplyDigits.{valuesDigits, largestDigits, recordDigits, headDigits, positionAt, recordAt}
+use Rattle.frames.specs.ReplyDigits.{valuesDigits, largestDigits, recordDigits, headDigits, positionAt, recordAt, largestAt}
 use Rattle.frames.specs.ReplyDigits.{chainDigits}
 use Rattle.frames.specs.ReplyDigitLaws.{length-values, length-largest, length-head, every-values}
 use Rattle.frames.specs.ReadBack.{Fitting, field-after, field-first, fields-after, fields-first, a-read, b-read, ChainRead}
 use Rattle.frames.specs.Replies.{Reply, refusedAs, servedWith, chainReply, exponentsFrom, exponentsIn, tellsLargest}
 use Rattle.frames.specs.Replies.{orSixteen, served, replyRowOf, replyTo}
-use Rattle.frames.specs.ServedLaws.{Sound, looked-right, made}
-use Rattle.frames.specs.ReplyLaws.{reply-fit, served-kind, numbers-fit, position-low, reply-read}
+use Rattle.frames.specs.ServedLaws.{Sound, sixteen-right, made}
+use Rattle.frames.specs.ReplyLaws.{reply-fit, served-kind, numbers-fit, position-low, reply-read, reply-largest}
 
 -- ---- lines made of values
 
@@ -209,7 +209,7 @@ module _ (k : Kind) (front l : List ℕ) (f : ℕ) (wide : rowOf k .width ≡ 2)
   pub record-line-reply : (reply : List ℕ → Reply) → served k line ≡ orSixteen (tellsLargest k line) (reply (itemsIn k line))
       → replyTo line ≡ reply l
   record-line-reply reply e =
-      reply-fit line k (line-fit line k record-fit) ∙ e ∙ looked-right _ _ tells-largest ∙ ap reply record-values
+      reply-fit line k (line-fit line k record-fit) ∙ e ∙ sixteen-right _ _ tells-largest ∙ ap reply record-values
 
 -- The replies to a record, a word, and a word for the next chain.
 pub record-reply : (l : List ℕ) → length l ≤ 126 → Fitting 2 l → replyTo (recordLine (recordDigits l)) ≡ chainReply (ofRecord l)
@@ -269,12 +269,14 @@ past-count n i f g l = at-reply n i f g ∙ rw (at-past n i l)
 
 -- ---- from a reply to other lines
 
--- n and the record of one of its chains stand in ds. The lines of kinds 03 and 04 made of what stands there, n and position or the
--- bytes from the number of parts on, are served with ds.
+-- n and the record of one of its chains stand in ds, with a and b of the chain's largest part after the number of parts. The lines of
+-- kinds 03 and 04 made of what stands there, n and position or the bytes from the number of parts on, are served with ds.
 pub record Leads (ds : List ℕ) : Type 0 where
   pub chain : List Part
   pub sums : ChainOf (field ds 1 8) chain
   pub record-there : recordIn ds ≡ recordDigits (map partNumber chain)
+  pub largest-a : field ds largestAt 1 ≡ largestPart chain .a
+  pub largest-b : field ds (largestAt + 1) 1 ≡ largestPart chain .b
   pub placed : replyTo (atLine (field ds 1 8) (field ds positionAt 8)) ≡ servedWith ds
   pub burned : replyTo (recordLine (recordIn ds)) ≡ servedWith ds
 
@@ -292,10 +294,14 @@ chain-leads n c h f =
     let r : ChainRead n (position n c) (map partNumber c) ds = rw append-nil at (reply-read n c [] h f) in
     let l = chain-lines n c h f in
     let there = record-of-chain n (position n c) (map partNumber c) in
+    let largest : (field ds largestAt 1 ≡ largestPart c .a) × (field ds (largestAt + 1) 1 ≡ largestPart c .b) =
+    rw append-nil at (reply-largest n c [] h f) in
     record {
       chain = c;
       sums = rw (r .number) h;
       record-there = there;
+      largest-a = largest .0;
+      largest-b = largest .1;
       placed = rw (r .number, r .position-read) (l .placed);
       burned = rw there (l .burned);
     }

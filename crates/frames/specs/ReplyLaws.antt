@@ -2,21 +2,21 @@
 --
 -- In this order: a line's first 515 characters (`first-515`); a fit line is replied to as its kind; every reply is an even number
 -- of digits, at least 2 and at most 512, all of them as they are written (`reply-frame`), so that it is one line
--- (`reply-unbroken`); what a chain's reply is read back as (`reply-read`, `reply-largest`). What goes kind by kind is in ServedLaws. That replies
--- lead to each other, as demand 2 asks, is in LineTrips; demand 3 is in BestLines.
+-- (`reply-unbroken`); what a chain's reply is read back as (`reply-read`), and the largest part in it (`reply-largest`). What goes
+-- kind by kind is in ServedLaws. That replies lead to each other, as demand 2 asks, is in LineTrips; demand 3 is in BestLines.
 use mathlib.Core.Path.{_≡_, refl, ap, _∙_}
 use mathlib.Core.Bool.{true}
-use mathlib.Core.List.{List, [], _∷_, _++_, map}
+use mathlib.Core.List.{List, _++_, map}
 use mathlib.Core.Option.{some}
 use Prim.Native.Nat.{ℕ, _+_, _^_, _≤_, _<_}
 use native.Mathlib.Omega.{arith}
 use lib.ListN.{length, take}
-use Rattle.chains.specs.Chains.{Part, total, ChainOf}
+use Rattle.chains.specs.Chains.{Part, ChainOf}
 use Rattle.chains.specs.Listing.{position}
 use Rattle.chains.specs.Counts.{count-fits}
 use Rattle.chains.specs.PositionsOfChains.{at-position}
-use Rattle.parts.specs.Parts.{partNumber, largestOf}
-use Rattle.parts.specs.Largest.{largest-first}
+use Rattle.parts.specs.Parts.{partNumber, largestPart}
+use Rattle.parts.specs.Largest.{largest-of-chain}
 use Rattle.words.specs.RecordLaws.{InTable, judged-sum}
 use Rattle.words.specs.WordLaws.{chain-judged}
 use Rattle.lines.specs.Kinds.{Kind, kindOf}
@@ -92,19 +92,11 @@ reply-read n c rest h f =
     chain-read n (position n c) (map partNumber c) rest f (omega (arith, position-low n c h f))
     (few-numbers n c h f) (numbers-fit n c h f)
 
--- After the number of parts it has a and b of the chain's first part, which is the largest.
-pub reply-largest : (n : ℕ) (p : Part) (c : List Part) (rest : List ℕ) → ChainOf n (p ∷ c) → n < 2 ^ 64
-    → (field (chainDigits n (position n (p ∷ c)) (map partNumber (p ∷ c)) ++ rest) largestAt 1 ≡ p .a)
-    × (field (chainDigits n (position n (p ∷ c)) (map partNumber (p ∷ c)) ++ rest) (largestAt + 1) 1 ≡ p .b)
-unfolding total
-reply-largest n p c rest h f =
-    let r = reply-read n (p ∷ c) rest h f in
-    let largest = largest-first p c (omega (arith, h .sums)) in
-    (r .largest-a ∙ ap (λ (q : Part). q .a) largest, r .largest-b ∙ ap (λ (q : Part). q .b) largest)
-
--- Both are 0 for the empty chain.
-pub reply-empty : (n : ℕ) (rest : List ℕ) → ChainOf n [] → n < 2 ^ 64
-    → (field (chainDigits n (position n []) [] ++ rest) largestAt 1 ≡ 0)
-    × (field (chainDigits n (position n []) [] ++ rest) (largestAt + 1) 1 ≡ 0)
-unfolding largestOf
-reply-empty n rest h f = let r = reply-read n [] rest h f in (r .largest-a, r .largest-b)
+-- After the number of parts it has a and b of the chain's largest part, and 0 and 0 for the empty chain.
+pub reply-largest : (n : ℕ) (c : List Part) (rest : List ℕ) → ChainOf n c → n < 2 ^ 64
+    → (field (chainDigits n (position n c) (map partNumber c) ++ rest) largestAt 1 ≡ largestPart c .a)
+    × (field (chainDigits n (position n c) (map partNumber c) ++ rest) (largestAt + 1) 1 ≡ largestPart c .b)
+reply-largest n c rest h f =
+    let r = reply-read n c rest h f in
+    let same = largest-of-chain c (omega (arith, h .sums)) in
+    (r .largest-a ∙ ap (λ (p : Part). p .a) same, r .largest-b ∙ ap (λ (p : Part). p .b) same)

@@ -4,9 +4,9 @@
 -- In this order: served and refused (`run-served`, `run-refused`); a line made of values; every chain of n runs to n × x modulo m
 -- (`chain-run`), and so does every chain that another line's reply tells (`leads-run`).
 use mathlib.Core.Path.{_≡_, refl, ap, _∙_}
-use mathlib.Core.Logic.{_↔_, _⊎_, inl, inr, ⊎-elim, Iff·and, Iff·trans}
+use mathlib.Core.Logic.{_↔_, _⊎_, inl, inr, ⊎-elim, Iff·rfl, Iff·and, Iff·trans}
 use mathlib.Core.Bool.{true}
-use mathlib.Core.List.{List, map, _++_, append-assoc}
+use mathlib.Core.List.{List, [], map, _++_, append-assoc}
 use Prim.Native.Nat.{ℕ, _*_, _%_, _^_, _≤_, _<_}
 use native.Mathlib.Nat.{mod-lt}
 use native.Mathlib.Omega.{arith}
@@ -27,12 +27,12 @@ use Rattle.lines.specs.Kinds.{run-line, rowOf}
 use Rattle.lines.specs.Lines.{field, itemsIn, fit, shapeOf}
 use Rattle.frames.specs.ReplyDigits.{singleDigits, recordDigits}
 use Rattle.frames.specs.ReadBack.{Fitting, field-after, field-first, single-read}
-use Rattle.frames.specs.Replies.{Reply, refusedAs, servedWith, ranReply, modulusIn, residueIn, tellsLargest, orSixteen}
+use Rattle.frames.specs.Replies.{Reply, refusedAs, servedWith, ranReply, modulusIn, residueIn, exponentsIn, tellsLargest, orSixteen}
 use Rattle.frames.specs.Replies.{served, replyTo}
 use Rattle.frames.specs.ServedLaws.{few-numbers, number-low}
 use Rattle.frames.specs.ReplyLaws.{reply-fit, numbers-fit}
 use Rattle.frames.specs.LineTrips.{withRecord, recordIn, record-line-reply, Leads}
-use Rattle.frames.specs.RecordLines.{LargestTold, Open, Named, line-served, line-before, line-sixteen, line-only}
+use Rattle.frames.specs.RecordLines.{LargestTold, Reaches16, Named, empty-named, empty-told, line-served, line-before, line-sixteen, line-only}
 
 -- ---- served and refused
 
@@ -106,7 +106,7 @@ module _ (line : List ℕ) (f : shapeOf line ≡ fit run-line) where
           told-residue (ranOf numbers m x) ds .1 (r, ran-residue numbers m x r .1 (t .able, (t .n, t .burned, refl)), t .digits)
 
   pub run-served : (ds : List ℕ) → (replyTo line ≡ servedWith ds) ↔ (LargestTold run-line line × RunReply numbers m x ds)
-  run-served ds = Iff·trans (line-served run-line line plain reply ds) (Iff·and ((λ t. t), λ t. t) (run-told ds))
+  run-served ds = Iff·trans (line-served run-line line plain reply ds) (Iff·and Iff·rfl (run-told ds))
 
   only : (r : ℕ) → plain ≡ refusedAs r → (r ≡ 13) ⊎ ((r ≡ 14) ⊎ ((r ≡ 8) ⊎ ((r ≡ 9) ⊎ (r ≡ 10))))
   only r e = run-refusals numbers m x .no-other r (told-refused (ranOf numbers m x) r .0 e)
@@ -117,7 +117,7 @@ module _ (line : List ℕ) (f : shapeOf line ≡ fit run-line) where
       (⊎-elim (λ (g : r ≡ 14). omega arith)
       (⊎-elim (λ (g : r ≡ 8). omega arith) (⊎-elim (λ (g : r ≡ 9). omega arith) (λ (g : r ≡ 10). omega arith)))) (only r e)
 
-  named : Open plain ↔ (ResidueBy m x × Named numbers)
+  named : Reaches16 plain ↔ (ResidueBy m x × Named numbers)
   named = (
     ⊎-elim (λ (s : (ds : List ℕ) × (plain ≡ servedWith ds)). let t = run-told (s .0) .0 (s .1) in (t .able, (t .n, t .burned)))
         (λ (e : plain ≡ refusedAs 15). absurd (none-else 15 (omega arith) e)),
@@ -137,10 +137,14 @@ module _ (line : List ℕ) (f : shapeOf line ≡ fit run-line) where
         refusal-9 = before 9 (omega arith) (run .refusal-9);
         refusal-10 = before 10 (omega arith) (run .refusal-10);
         refusal-16 = Iff·trans (line-sixteen run-line line plain reply (none-else 16 (omega arith)))
-            (Iff·trans (Iff·and named ((λ t. t), λ t. t)) (λ h. (h .0 .0, (h .0 .1, h .1)), λ h. ((h .0, h .1 .0), h .1 .1)));
+            (Iff·trans (Iff·and named Iff·rfl) (λ h. (h .0 .0, (h .0 .1, h .1)), λ h. ((h .0, h .1 .0), h .1 .1)));
         no-other = λ r e.
             ⊎-elim (λ (g : plain ≡ refusedAs r). inr (only r g)) (λ (g : r ≡ 16). inl g) (line-only run-line line plain reply r e);
       }
+
+  -- No numbers, and other bytes than 0 and 0.
+  pub empty-run : ResidueBy m x → numbers ≡ [] → ¬ (exponentsIn run-line line ≡ record { a = 0; b = 0 }) → replyTo line ≡ refusedAs 16
+  empty-run able e n = run-refused .refusal-16 .1 (able, (rw e empty-named, λ t. n (empty-told run-line line e .0 t)))
 
 -- ---- a line made of values
 

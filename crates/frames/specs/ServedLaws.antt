@@ -234,57 +234,57 @@ record-tree-short l w e =
 
 -- A line with a record, whose reply without a and b is x: where they are right, where they are wrong and x serves, and where x is a
 -- refusal other than 15.
-pub looked-right : (b : Bool) (x : Reply) → b ≡ true → orSixteen b x ≡ x
+pub sixteen-right : (b : Bool) (x : Reply) → b ≡ true → orSixteen b x ≡ x
 unfolding orSixteen
-looked-right b x e = rw e
+sixteen-right b x e = rw e
 
-pub looked-wrong : (b : Bool) (ds : List ℕ) → b ≡ false → orSixteen b (servedWith ds) ≡ refusedAs 16
+pub sixteen-wrong : (b : Bool) (ds : List ℕ) → b ≡ false → orSixteen b (servedWith ds) ≡ refusedAs 16
 unfolding orSixteen
-looked-wrong b ds e = rw e
+sixteen-wrong b ds e = rw e
 
-pub looked-refused : (b : Bool) (r : ℕ) → ¬ (r ≡ 15) → orSixteen b (refusedAs r) ≡ refusedAs r
+pub sixteen-refused : (b : Bool) (r : ℕ) → ¬ (r ≡ 15) → orSixteen b (refusedAs r) ≡ refusedAs r
 unfolding orSixteen
-looked-refused true r h = refl
-looked-refused false r h = rw (ne-eqb r 15 h)
+sixteen-refused true r h = refl
+sixteen-refused false r h = rw (ne-eqb r 15 h)
 
 -- Its refusals are those of x, and 16.
 module _ (rs more : List ℕ) (kept : every (λ (r : ℕ). among r more) rs ≡ true) (sixteen : T (among 16 more)) where
-  still : (r : ℕ) → T (among r rs) → T (among r more)
-  still r t = rw (among-passes (λ (q : ℕ). among q more) r rs kept t) tt
+  kept-among : (r : ℕ) → T (among r rs) → T (among r more)
+  kept-among r t = rw (among-passes (λ (q : ℕ). among q more) r rs kept t) tt
 
-  or-still : (r : ℕ) → T (among r rs) → T (among (cond (eqb r 15) 16 r) more)
-  or-still r t = go (eqb r 15)
+  sixteen-among : (r : ℕ) → T (among r rs) → T (among (cond (eqb r 15) 16 r) more)
+  sixteen-among r t = go (eqb r 15)
     where
       go : (b : Bool) → T (among (cond b 16 r) more)
       go true = sixteen
-      go false = still r t
+      go false = kept-among r t
 
-  looked-in : (b : Bool) (x : Reply) → ReplyIn rs x → ReplyIn more (orSixteen b x)
+  sixteen-in : (b : Bool) (x : Reply) → ReplyIn rs x → ReplyIn more (orSixteen b x)
   unfolding orSixteen
-  looked-in true (refusedAs r) t = still r t
-  looked-in true (servedWith ds) t = tt
-  looked-in false (refusedAs r) t = or-still r t
-  looked-in false (servedWith ds) t = sixteen
+  sixteen-in true (refusedAs r) t = kept-among r t
+  sixteen-in true (servedWith ds) t = tt
+  sixteen-in false (refusedAs r) t = sixteen-among r t
+  sixteen-in false (servedWith ds) t = sixteen
 
-  looked-frame : (b : Bool) (x : Reply) → Frame (digitsIn x) → Frame (digitsIn (orSixteen b x))
+  sixteen-frame : (b : Bool) (x : Reply) → Frame (digitsIn x) → Frame (digitsIn (orSixteen b x))
   unfolding orSixteen digitsIn
-  looked-frame true x f = f
-  looked-frame false (refusedAs r) f = refusal-frame (cond (eqb r 15) 16 r)
-  looked-frame false (servedWith ds) f = refusal-frame 16
+  sixteen-frame true x f = f
+  sixteen-frame false (refusedAs r) f = refusal-frame (cond (eqb r 15) 16 r)
+  sixteen-frame false (servedWith ds) f = refusal-frame 16
 
-  looked-sound : (b : Bool) (o : Outcome) → Sound rs o → (p : Outcome) × Sound more p × (orSixteen b (chainReply o) ≡ chainReply p)
+  sixteen-sound : (b : Bool) (o : Outcome) → Sound rs o → (p : Outcome) × Sound more p × (orSixteen b (chainReply o) ≡ chainReply p)
   unfolding orSixteen chainReply
-  looked-sound true (refused r) s = (refused r, still r s, refl)
-  looked-sound true (gives n c) s = (gives n c, s, refl)
-  looked-sound false (refused r) s = (refused (cond (eqb r 15) 16 r), or-still r s, refl)
-  looked-sound false (gives n c) s = (refused 16, sixteen, refl)
+  sixteen-sound true (refused r) s = (refused r, kept-among r s, refl)
+  sixteen-sound true (gives n c) s = (gives n c, s, refl)
+  sixteen-sound false (refused r) s = (refused (cond (eqb r 15) 16 r), sixteen-among r s, refl)
+  sixteen-sound false (gives n c) s = (refused 16, sixteen, refl)
 
-  looked : {e : Bool} (b : Bool) (x : Reply) → Made (replyRow rs e) x → Made (replyRow more e) (orSixteen b x)
-  looked b x m =
+  sixteen-made : {e : Bool} (b : Bool) (x : Reply) → Made (replyRow rs e) x → Made (replyRow more e) (orSixteen b x)
+  sixteen-made b x m =
       record {
-        framed = looked-frame b x (m .framed);
-        refusal = looked-in b x (m .refusal);
-        chain = λ t. let (o, s, f) = m .chain t in rw f (looked-sound b o s);
+        framed = sixteen-frame b x (m .framed);
+        refusal = sixteen-in b x (m .refusal);
+        chain = λ t. let (o, s, f) = m .chain t in rw f (sixteen-sound b o s);
       }
 
 -- The numbers that stand in a line.
@@ -296,15 +296,15 @@ unfolding replyRowOf served digitsIn among every
 made count-line line = plain _ (single-frame (count (field line 1 8))) tt
 made best-line line = priced (price (pricesIn line)) _ (best-sound (field line 1 8) (limitsIn line) (pricesIn line) (number-low line 1))
 made at-line line = chained _ (at-sound (field line 1 8) (field line 9 8) (number-low line 1))
-made record-line line = looked _ _ refl tt (tellsLargest record-line line) _ (chained _ (record-sound (itemsIn record-line line)))
+made record-line line = sixteen-made _ _ refl tt (tellsLargest record-line line) _ (chained _ (record-sound (itemsIn record-line line)))
 made word-line line = chained _ (word-sound (itemsIn word-line line))
 made next-line line = chained _ (next-sound (itemsIn next-line line))
 made run-line line =
-    looked (13 ∷ 14 ∷ 8 ∷ 9 ∷ 10 ∷ []) _ refl tt (tellsLargest run-line line) _
+    sixteen-made (13 ∷ 14 ∷ 8 ∷ 9 ∷ 10 ∷ []) _ refl tt (tellsLargest run-line line) _
     (ran-made (ranOf (itemsIn run-line line) (modulusIn line) (residueIn line))
     (run-refusals (itemsIn run-line line) (modulusIn line) (residueIn line) .no-other))
 made tree-line line = chained _ (tree-sound (itemsIn tree-line line))
 made to-tree-line line =
-    looked (8 ∷ 9 ∷ 10 ∷ 15 ∷ []) _ refl tt (tellsLargest to-tree-line line) _
+    sixteen-made (8 ∷ 9 ∷ 10 ∷ 15 ∷ []) _ refl tt (tellsLargest to-tree-line line) _
     (letters-made (recordTree (itemsIn to-tree-line line)) (record-tree-refusals (itemsIn to-tree-line line) .no-other)
     (record-tree-short (itemsIn to-tree-line line)))

@@ -1,11 +1,12 @@
--- Lines of kinds 08 and 09 (document 02, T-05). A fit line of kind 08 is served exactly if its letters are the tree word of a chain
--- of n, n at least 1 and below 2^64. A fit line of kind 09 is served exactly if its part numbers are those of such a chain.
+-- Lines of kinds 08 and 09 (document 02, T-05 and T-06). A fit line of kind 08 is served exactly if its letters are the tree word of
+-- a chain of n, n at least 1 and below 2^64. A fit line of kind 09 is served exactly if its part numbers are those of such a chain
+-- and the two bytes before them are a and b of its largest part.
 --
 -- In this order: served and refused (`tree-served`, `tree-refused`, `to-tree-served`, `to-tree-refused`); lines made of values;
 -- every chain of n (`chain-to-tree`, `tree-to-chain`), also the chain that another line's reply tells (`leads-trees`); from the
 -- reply to any line of one of the two kinds to a line of the other and back (`tree-then-to-tree`, `to-tree-then-tree`).
 use mathlib.Core.Path.{_≡_, refl, sym, ap, _∙_}
-use mathlib.Core.Logic.{_↔_, _⊎_, inl, inr, ⊎-elim, Iff·and, Iff·trans}
+use mathlib.Core.Logic.{_↔_, _⊎_, inl, inr, ⊎-elim, Iff·rfl, Iff·and, Iff·trans}
 use mathlib.Core.List.{List, [], map, append-nil}
 use mathlib.Core.Option.{some}
 use Prim.Native.Nat.{ℕ, zero, suc, _^_, _≤_, _<_}
@@ -30,12 +31,13 @@ use Rattle.lines.specs.Kinds.{tree-line, to-tree-line, rowOf, kindOf}
 use Rattle.lines.specs.Lines.{field, fields, itemsIn, fit, shapeOf}
 use Rattle.frames.specs.ReplyDigits.{recordDigits, recordAt, numbersAt, chainDigits, lettersDigits, lettersCountAt, lettersAt}
 use Rattle.frames.specs.ReadBack.{Fitting, ChainRead, letters-read}
-use Rattle.frames.specs.Replies.{Reply, refusedAs, servedWith, chainReply, lettersReply, tellsLargest, orSixteen, served, replyTo}
+use Rattle.frames.specs.Replies.{Reply, refusedAs, servedWith, chainReply, lettersReply, exponentsIn, tellsLargest, orSixteen}
+use Rattle.frames.specs.Replies.{served, replyTo}
 use Rattle.frames.specs.ServedLaws.{few-numbers, number-low}
 use Rattle.frames.specs.ReplyLaws.{reply-fit, served-kind, numbers-fit, reply-read}
 use Rattle.frames.specs.LineTrips.{itemsLine, wordLine, withRecord, recordIn, items-reply, record-line-reply}
 use Rattle.frames.specs.LineTrips.{Leads, chain-lines, record-of-chain}
-use Rattle.frames.specs.RecordLines.{LargestTold, Open, Named, outcome-refused, looked-served, tells}
+use Rattle.frames.specs.RecordLines.{LargestTold, Reaches16, Named, empty-named, empty-told, outcome-refused, served-by, tells}
 use Rattle.frames.specs.RecordLines.{line-served, line-before, line-fifteen, line-sixteen, line-only}
 
 -- ---- served and refused
@@ -81,9 +83,9 @@ module _ (w : Word) where
           record { of = of; word = sym word; digits = cc (rw g at e) }
 
 module _ (l : List ℕ) where
-  record-served : (ds : List ℕ) → (lettersReply (recordTree l) ≡ servedWith ds) ↔ ToTreeReply l ds
+  letters-served : (ds : List ℕ) → (lettersReply (recordTree l) ≡ servedWith ds) ↔ ToTreeReply l ds
   unfolding lettersReply
-  record-served ds = (λ e. go (recordTree l) refl e, back)
+  letters-served ds = (λ e. go (recordTree l) refl e, back)
     where
       back : ToTreeReply l ds → lettersReply (recordTree l) ≡ servedWith ds
       back t =
@@ -100,9 +102,9 @@ module _ (l : List ℕ) where
           let of : SomeChain = record { n = n; chain = c; sums = sums; above = above; fits = fits } in
           record { of = of; numbers = numbers; digits = rw word at told }
 
-  record-refused : (r : ℕ) → (lettersReply (recordTree l) ≡ refusedAs r) ↔ (recordTree l ≡ noTree r)
+  letters-refused : (r : ℕ) → (lettersReply (recordTree l) ≡ refusedAs r) ↔ (recordTree l ≡ noTree r)
   unfolding lettersReply
-  record-refused r = go (recordTree l)
+  letters-refused r = go (recordTree l)
     where
       go : (t : TreeWord) → (lettersReply t ≡ refusedAs r) ↔ (t ≡ noTree r)
       go (noTree q) = (λ e. cc, λ e. cc)
@@ -153,43 +155,43 @@ module _ (line : List ℕ) (f : shapeOf line ≡ fit to-tree-line) where
 
   pub to-tree-served : (ds : List ℕ) → (replyTo line ≡ servedWith ds) ↔ (LargestTold to-tree-line line × ToTreeReply numbers ds)
   to-tree-served ds =
-      Iff·trans (line-served to-tree-line line plain to-tree-reply ds) (Iff·and ((λ t. t), λ t. t) (record-served numbers ds))
+      Iff·trans (line-served to-tree-line line plain to-tree-reply ds) (Iff·and Iff·rfl (letters-served numbers ds))
 
   only : (r : ℕ) → plain ≡ refusedAs r → (r ≡ 8) ⊎ ((r ≡ 9) ⊎ ((r ≡ 10) ⊎ (r ≡ 15)))
-  only r e = record-tree-refusals numbers .no-other r (record-refused numbers r .0 e)
+  only r e = record-tree-refusals numbers .no-other r (letters-refused numbers r .0 e)
 
   not-16 : ¬ (plain ≡ refusedAs 16)
   not-16 e =
       ⊎-elim (λ (g : 16 ≡ 8). omega arith)
       (⊎-elim (λ (g : 16 ≡ 9). omega arith) (⊎-elim (λ (g : 16 ≡ 10). omega arith) (λ (g : 16 ≡ 15). omega arith))) (only 16 e)
 
-  named : Open plain ↔ Named numbers
+  named : Reaches16 plain ↔ Named numbers
   unfolding total
   named = (there, back)
     where
-      there : Open plain → Named numbers
+      there : Reaches16 plain → Named numbers
       there =
           ⊎-elim
           (λ (s : (ds : List ℕ) × (plain ≡ servedWith ds)).
-          let t = record-served numbers (s .0) .0 (s .1) in
+          let t = letters-served numbers (s .0) .0 (s .1) in
           let c = t .of in
           (c .n, judged-sum numbers (c .n) .0 (ap judgedOf (t .numbers) ∙ chain-judged (c .n) (c .chain) (c .sums) (c .fits))))
           (λ (e : plain ≡ refusedAs 15).
-          let none-there = record-tree-refusals numbers .refusal-15 .0 (record-refused numbers 15 .0 e) in
-          (0, judged-sum numbers 0 .0 (ap judgedOf none-there ∙ chain-judged 0 [] (record { chained = tt; sums = refl }) (omega arith))))
+          let none-there = record-tree-refusals numbers .refusal-15 .0 (letters-refused numbers 15 .0 e) in
+          rw none-there empty-named)
 
-      back : Named numbers → Open plain
+      back : Named numbers → Reaches16 plain
       back (n, b) =
           let same = numbers-of-parts numbers (in-table numbers .1 (b .known)) in
-          ⊎-elim (λ (z : n ≡ 0). inr (record-refused numbers 15 .1 (record-tree-refusals numbers .refusal-15 .1
+          ⊎-elim (λ (z : n ≡ 0). inr (letters-refused numbers 15 .1 (record-tree-refusals numbers .refusal-15 .1
           (sym same ∙ ap (map partNumber) (chain-of-0 (recordParts numbers) .0 (rw z at (b .chain)))))))
           (λ (l : 1 ≤ n).
           let of : SomeChain = record { n = n; chain = recordParts numbers; sums = b .chain; above = l; fits = b .fits } in
-          inl (_, record-served numbers _ .1 (record { of = of; numbers = sym same; digits = refl })))
+          inl (_, letters-served numbers _ .1 (record { of = of; numbers = sym same; digits = refl })))
           (zero-or-more n)
 
   before : (r : ℕ) → r < 15 → {P : Type 0} → (recordTree numbers ≡ noTree r) ↔ P → (replyTo line ≡ refusedAs r) ↔ P
-  before r h p = Iff·trans (line-before to-tree-line line plain to-tree-reply r h) (Iff·trans (record-refused numbers r) p)
+  before r h p = Iff·trans (line-before to-tree-line line plain to-tree-reply r h) (Iff·trans (letters-refused numbers r) p)
 
   pub to-tree-refused : ToTreeLineRefusals numbers (LargestTold to-tree-line line) (λ r. replyTo line ≡ refusedAs r)
   to-tree-refused =
@@ -198,13 +200,17 @@ module _ (line : List ℕ) (f : shapeOf line ≡ fit to-tree-line) where
         refusal-8 = before 8 (omega arith) (tree .refusal-8);
         refusal-9 = before 9 (omega arith) (tree .refusal-9);
         refusal-10 = before 10 (omega arith) (tree .refusal-10);
-        refusal-16 = Iff·trans (line-sixteen to-tree-line line plain to-tree-reply not-16) (Iff·and named ((λ t. t), λ t. t));
+        refusal-16 = Iff·trans (line-sixteen to-tree-line line plain to-tree-reply not-16) (Iff·and named Iff·rfl);
         refusal-15 = Iff·trans (line-fifteen to-tree-line line plain to-tree-reply)
-            (Iff·and ((λ t. t), λ t. t) (Iff·trans (record-refused numbers 15) (tree .refusal-15)));
+            (Iff·and Iff·rfl (Iff·trans (letters-refused numbers 15) (tree .refusal-15)));
         no-other = λ r e.
             ⊎-elim (λ (g : plain ≡ refusedAs r). inr (only r g)) (λ (g : r ≡ 16). inl g)
             (line-only to-tree-line line plain to-tree-reply r e);
       }
+
+  -- No numbers, and other bytes than 0 and 0.
+  pub empty-to-tree : numbers ≡ [] → ¬ (exponentsIn to-tree-line line ≡ record { a = 0; b = 0 }) → replyTo line ≡ refusedAs 16
+  empty-to-tree e n = to-tree-refused .refusal-16 .1 (rw e empty-named, λ t. n (empty-told to-tree-line line e .0 t))
 
 -- ---- lines made of values
 
@@ -333,7 +339,7 @@ pub to-tree-then-tree : (line ds : List ℕ) → kindOf (field line 0 1) ≡ som
     → RecordBack (itemsIn to-tree-line line) ds
 unfolding served
 to-tree-then-tree line ds first e =
-    let told = looked-served (tellsLargest to-tree-line line) (tells to-tree-line line) _ ds .0 (served-kind line ds to-tree-line first e) in
-    let t = record-served (itemsIn to-tree-line line) ds .0 (told .1) in
+    let told = served-by (tellsLargest to-tree-line line) (tells to-tree-line line) _ ds .0 (served-kind line ds to-tree-line first e) in
+    let t = letters-served (itemsIn to-tree-line line) ds .0 (told .1) in
     let c = t .of in
     rw (← t .numbers, ← t .digits) at (record-back (c .n) (c .chain) (c .sums) (c .above) (c .fits))

@@ -1,20 +1,21 @@
 -- The exponents of a part number, and those of a record's largest part. The definitions are in Parts.
 --
--- In this order: the exponents of a number; the largest part of a record; whether two parts are the same, which for a part of the
--- table is told by its number.
+-- In this order: the exponents of a number; the largest part of a chain (`none-larger`); that of a record, by its numbers; whether
+-- two parts are the same, which for a part of the table is told by its number.
 use mathlib.Core.Path.{_≡_, refl, sym, ap, _∙_}
 use mathlib.Core.Logic.{_↔_}
 use mathlib.Core.Bool.{Bool, true, false, and-eq-true-iff}
 use mathlib.Core.List.{List, [], _∷_, map}
 use Prim.Native.Nat.{ℕ, _≤_, _<_}
+use native.Mathlib.Nat.{mul-le-mul-right}
 use native.Mathlib.Omega.{arith}
 use native.Mathlib.Decide.{decLt}
 use borrow.Author.Tests.{lt-ltb, le-ltb, ltb-true, eq-eqb, eqb-true}
 use lib.Dec.{ltb, eqb}
 use lib.ListN.{length, getD}
-use Rattle.chains.specs.Chains.{Part, value}
+use Rattle.chains.specs.Chains.{Part, value, ProperMultiple, Chained, total}
 use Rattle.chains.specs.Divides as divides
-use Rattle.parts.specs.Parts.{limit, partAt, exponentsAt, largestOf, samePart, partNumber}
+use Rattle.parts.specs.Parts.{limit, partAt, exponentsAt, largestPart, largestOf, samePart, partNumber}
 use Rattle.parts.specs.Numbers.{parts-complete, number-over, number-of-part, part-of-number}
 use Rattle.parts.specs.CodeLaws.{part-bounded}
 
@@ -36,28 +37,59 @@ exponents-small i = go (ltb i 1344) refl
     go true e = let bounds = part-bounded i (ltb-true i 1344 e) in rw e (omega arith, omega arith)
     go false e = rw e (omega arith, omega arith)
 
+-- ---- the largest part of a chain
+
+-- No part of a list is larger than v.
+abbrev pub AtMost : ℕ → List Part → Type 0
+AtMost v [] = Unit {0}
+AtMost v (p ∷ c) = (value p ≤ v) × AtMost v c
+
+at-most-more : (v w : ℕ) (c : List Part) → v ≤ w → AtMost v c → AtMost w c
+at-most-more v w [] h m = tt
+at-most-more v w (p ∷ c) h m = (omega (arith, m .0), at-most-more v w c h (m .1))
+
+multiple-larger : (x y : ℕ) → ProperMultiple x y → y ≤ x
+unfolding ProperMultiple
+multiple-larger x y (k, two, e) = omega (arith, mul-le-mul-right y two, e)
+
+pub none-larger : (c : List Part) → Chained c → AtMost (value (largestPart c)) c
+unfolding largestPart
+none-larger [] h = tt
+none-larger (p ∷ []) h = (omega arith, tt)
+none-larger (p ∷ q ∷ c) h =
+    (omega arith, at-most-more (value q) (value p) (q ∷ c) (multiple-larger (value p) (value q) (h .0)) (none-larger (q ∷ c) (h .1)))
+
 -- ---- the largest part of a record
 
 pub largest-none : (l : List ℕ) → length l ≡ 0 → largestOf l ≡ record { a = 0; b = 0 }
-unfolding largestOf
+unfolding largestOf largestPart
 largest-none [] e = refl
 largest-none (i ∷ l) e = absurd (omega arith)
 
 pub largest-some : (l : List ℕ) → 0 < length l → largestOf l ≡ exponentsAt (getD l 0 0)
-unfolding largestOf
+unfolding largestOf largestPart
 largest-some [] h = absurd (omega arith)
 largest-some (i ∷ l) h = refl
 
 -- Each exponent fits into a byte.
 pub largest-small : (l : List ℕ) → (largestOf l .a < 64) × (largestOf l .b < 64)
-unfolding largestOf
+unfolding largestOf largestPart
 largest-small [] = (omega arith, omega arith)
 largest-small (i ∷ l) = exponents-small i
 
--- For the record of a chain they are the exponents of its first part.
-pub largest-first : (p : Part) (c : List Part) → value p < limit → largestOf (map partNumber (p ∷ c)) ≡ p
-unfolding largestOf
-largest-first p c h = exponents-at (partNumber p) (parts-complete p h .0) ∙ part-of-number p h
+-- By the numbers of a chain's parts it is the chain's.
+pub largest-of-chain : (c : List Part) → total c < limit → largestOf (map partNumber c) ≡ largestPart c
+unfolding largestOf largestPart total
+largest-of-chain [] h = refl
+largest-of-chain (p ∷ c) h =
+    let low : value p < limit = omega arith in
+    exponents-at (partNumber p) (parts-complete p low .0) ∙ part-of-number p low
+
+-- And where a part of the table has the first number, it is that of the parts that the numbers name.
+pub largest-of-parts : (l : List ℕ) → (0 < length l → getD l 0 0 < 1344) → largestOf l ≡ largestPart (map partAt l)
+unfolding largestOf largestPart
+largest-of-parts [] h = refl
+largest-of-parts (i ∷ l) h = exponents-at i (h (omega arith))
 
 -- ---- the same part
 

@@ -1,7 +1,7 @@
 -- Part numbers: document 01, 'Parts and chains'. A part's number is its index in the part table, from 0.
 -- Definitions only; the theory is in Numbers.
 use mathlib.Core.Bool.{Bool, true, false, cond, _&&_}
-use mathlib.Core.List.{List, [], _∷_}
+use mathlib.Core.List.{List, [], _∷_, map}
 use Prim.Native.Nat.{ℕ, zero, suc, _+_, _^_, _/_, _%_}
 use lib.Dec.{ltb, eqb}
 use lib.ListN.{getD}
@@ -34,10 +34,14 @@ partAt i = record { a = times 64 2 (getD parts i 0); b = times 64 3 (getD parts 
 unfoldable pub exponentsAt : ℕ → Part
 exponentsAt i = cond (ltb i 1344) (partAt i) (record { a = 0; b = 0 })
 
--- a and b of the largest part of a record: its number comes first. Both are 0 for the record of no parts.
+-- The largest part of a chain, which comes first. The empty chain has none, and a and b are 0.
+unfoldable pub largestPart : List Part → Part
+largestPart [] = record { a = 0; b = 0 }
+largestPart (p ∷ c) = p
+
+-- That of a record, by its part numbers.
 unfoldable pub largestOf : List ℕ → Part
-largestOf [] = record { a = 0; b = 0 }
-largestOf (i ∷ is) = exponentsAt i
+largestOf numbers = largestPart (map exponentsAt numbers)
 
 -- Whether two parts are the same: the test of `is_largest`.
 unfoldable pub samePart : Part → Part → Bool

@@ -53,9 +53,9 @@ pub fn exponents_of(v: u64) -> Exponents
     }
 }
 
-// The exponents of the part with a number; 0 and 0 where no part has it, from 1344 on. By arithmetic alone: the octave of the
-// number, that has its parts from 2^l up to below 2^(l+1), and its place there. For b up to 40, 3^b has 1623 b / 1024 binary digits
-// after the first, so the part of octave l with 3^b has a = l - 1623 b / 1024.
+// The exponents of the part with a number; 0 and 0 where no part has it, from 1344 on. By arithmetic alone: the parts from 2^l up to
+// below 2^(l+1) are the octave l. The number's octave is found, and then its place in the octave. For b up to 40, 3^b has
+// 1623 b / 1024 binary digits after the first, so the part of octave l with 3^b has a = l - 1623 b / 1024.
 pub fn exponents_at(number: u16) -> Exponents
     ensures { λ r. ⌜ record { a = r .a; b = r .b } ≡ exponentsAt number ⌝ }
 {
@@ -118,8 +118,8 @@ pub fn largest_of(numbers: &[u16]) -> Exponents
     exponents_at(first_of(numbers))
 }
 
-// Whether exponents are those of a record's largest part. The number that they have is compared with the first number: this takes
-// less time than to work out the exponents of the first number.
+// Whether exponents are those of a record's largest part, as `largest_of` gives them. The number that they have is compared with the
+// first number: this takes less time than to work out the exponents of the first number.
 pub fn is_largest(told: Exponents, numbers: &[u16]) -> bool
     ensures { λ r. ⌜ r ≡ samePart (record { a = told .a; b = told .b }) (largestOf (now (numbers .entry))) ⌝ }
 {

@@ -1,5 +1,5 @@
 // The octave of a part number, and a part's place in its octave, by arithmetic. The octave l has the parts from 2^l up to below
-// 2^(l+1). The loops run their full length: what a jump could spare, one mispredicted jump would cost.
+// 2^(l+1). The loops do not end early: a jump that depends on the number is often mispredicted, and that costs more time.
 ghost use mathlib.Core.Path.{_≡_};
 ghost use Prim.Native.Nat.{_≤_, _<_};
 ghost use Rattle.parts.specs.Octaves.{partsBelow, laterOf, lastFrom, InOctave, nextGroup, inGroup, triplingsAt};

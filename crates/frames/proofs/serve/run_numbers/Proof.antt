@@ -15,7 +15,7 @@ use Rattle.running.specs.declared.Ran.the-variants as ran
 use Rattle.lines.specs.Kinds.{run-line, rowOf}
 use Rattle.lines.specs.LineLaws.{field-fits}
 use Rattle.frames.specs.Replies.{refusedAs, ranReply, modulusIn, residueIn, exponentsFrom, exponentsIn, orSixteen}
-use Rattle.frames.specs.ServedLaws.{looked-right, looked-wrong, looked-refused}
+use Rattle.frames.specs.ServedLaws.{sixteen-right, sixteen-wrong, sixteen-refused}
 use Rattle.frames.proofs.serve.run_numbers.Statement.{statement}
 use Rattle.frames.proofs.serve.run_numbers.Tie as tie
 
@@ -41,7 +41,7 @@ module _ (line l : List ℕ) (m x : ℕ) (a : Ran) (modulus : m ≡ modulusIn li
   unfolding ranReply
   by-refusal r f =
       rw (asked (ran.Refused r) f)
-      (sym (looked-refused _ r (λ g.
+      (sym (sixteen-refused _ r (λ g.
       ⊎-elim (λ (h : r ≡ 13). omega arith)
       (⊎-elim (λ (h : r ≡ 14). omega arith)
       (⊎-elim (λ (h : r ≡ 8). omega arith) (⊎-elim (λ (h : r ≡ 9). omega arith) (λ (h : r ≡ 10). omega arith))))
@@ -54,7 +54,7 @@ returns c =
     let y = t .before .before in
     let a = y .before .before in
     let x = a .before in
-    sym (looked-right _ _ (c .if1 .taken))
+    sym (sixteen-right _ _ (c .if1 .taken))
     ∙ by-answer _ _ _ _ _ (x .before .field-of .ensures) (x .field-of2 .ensures) (a .run-chain .ensures) _ _ _ (t .exponents-in .ensures)
     (q .is-largest .ensures) (y .residue .given .1)
 
@@ -66,7 +66,7 @@ returns-2 c =
     let y = t .before .before in
     let a = y .before .before in
     let x = a .before in
-    sym (looked-wrong _ _ (c .if1 .left))
+    sym (sixteen-wrong _ _ (c .if1 .left))
     ∙ by-answer _ _ _ _ _ (x .before .field-of .ensures) (x .field-of2 .ensures) (a .run-chain .ensures) _ _ _ (t .exponents-in .ensures)
     (q .is-largest .ensures) (y .residue .given .1)
 

@@ -20,7 +20,7 @@ use Rattle.ranking.specs.declared.Placed.the-variants as placed
 use Rattle.lines.specs.Kinds.{record-line, rowOf}
 use Rattle.frames.specs.ReplyDigits.{chainDigits}
 use Rattle.frames.specs.Replies.{Reply, refusedAs, servedWith, chainReply, orSixteen, served}
-use Rattle.frames.specs.ServedLaws.{looked-refused}
+use Rattle.frames.specs.ServedLaws.{sixteen-refused}
 use Rattle.frames.specs.RecordLines.{outcome-refused}
 use Rattle.frames.specs.Calls.{Told, Handled}
 use Rattle.frames.specs.declared.Replied.{Replied}
@@ -69,7 +69,7 @@ module _ (l s : List ℕ) (x : Placed) (room : scratchSize ≤ length s) (e : x 
   refused-reply right r f =
       let e = not-placed r f in
       rw e
-      (looked-refused right r (λ g.
+      (sixteen-refused right r (λ g.
       ⊎-elim (λ (h : r ≡ 8). omega arith) (⊎-elim (λ (h : r ≡ 9). omega arith) (λ (h : r ≡ 10). omega arith))
       (record-refusals l .no-other r (outcome-refused (ofRecord l) r .0 e))))
 

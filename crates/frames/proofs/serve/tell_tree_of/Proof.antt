@@ -19,7 +19,7 @@ use Rattle.trees.specs.Answers.{TreeWord, noTree, treeWord, recordTree, lentTre
 use Rattle.lines.specs.Kinds.{to-tree-line, rowOf}
 use Rattle.frames.specs.ReplyDigits.{lettersDigits}
 use Rattle.frames.specs.Replies.{Reply, refusedAs, servedWith, lettersReply, exponentsFrom, exponentsIn, orSixteen}
-use Rattle.frames.specs.ServedLaws.{looked-right, looked-wrong}
+use Rattle.frames.specs.ServedLaws.{sixteen-right, sixteen-wrong}
 use Rattle.frames.proofs.serve.tell_tree_of.Statement.{statement}
 use Rattle.frames.proofs.serve.tell_tree_of.Tie as tie
 
@@ -77,7 +77,7 @@ returns c =
     let reply = told-letters _ _ _ refl (w .write-tree .ensures .0) _ _ (m .k .given .1) (w .write-tree .ensures .1) (omega arith) .1 in
     rw (
       by-answer _ _ _ _ _ (q .before .exponents-in .ensures) (q .is-largest .ensures) reply,
-      looked-wrong _ _ (not-true _ (f .before .before .if1 .taken)),
+      sixteen-wrong _ _ (not-true _ (f .before .before .if1 .taken)),
     )
     (f .tell-refusal .ensures)
 
@@ -104,7 +104,7 @@ returns-2 c =
     let reply = told-letters _ _ _ refl (w .write-tree .ensures .0) _ _ (m .k .given .1) (w .write-tree .ensures .1) (omega arith) .1 in
     rw (
       by-answer _ _ _ _ _ (q .before .exponents-in .ensures) (q .is-largest .ensures) reply,
-      looked-right _ _ (not-false _ (f .before .if1 .left)),
+      sixteen-right _ _ (not-false _ (f .before .if1 .left)),
     )
     (t .tell-letters .ensures)
 

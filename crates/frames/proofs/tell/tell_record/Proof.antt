@@ -3,7 +3,7 @@ use mathlib.Core.Path.{sym, _∙_}
 use native.Mathlib.Omega.{arith}
 use borrow.Author.Needs.{needs}
 use Rattle.parts.specs.Largest.{same-part}
-use Rattle.frames.specs.ServedLaws.{looked-right, looked-wrong}
+use Rattle.frames.specs.ServedLaws.{sixteen-right, sixteen-wrong}
 use Rattle.frames.proofs.tell.tell_record.Statement.{statement}
 use Rattle.frames.proofs.tell.tell_record.Tie as tie
 
@@ -16,13 +16,13 @@ returns : tie.Need-returns
 returns c =
     let t = c .before .before in
     let f = t .before .before in
-    rw (looked-right _ _ (sym (f .before .is-largest .ensures) ∙ f .if1 .taken)) (t .tell-chain .ensures)
+    rw (sixteen-right _ _ (sym (f .before .is-largest .ensures) ∙ f .if1 .taken)) (t .tell-chain .ensures)
 
 returns-2 : tie.Need-returns-2
 returns-2 c =
     let t = c .before .before in
     let f = t .before .before in
-    rw (looked-wrong _ _ (sym (f .before .is-largest .ensures) ∙ f .if1 .left)) (t .tell-refusal .ensures)
+    rw (sixteen-wrong _ _ (sym (f .before .is-largest .ensures) ∙ f .if1 .left)) (t .tell-refusal .ensures)
 
 pub tell-record-spec : {M : Type 1} → statement M
 tell-record-spec =
