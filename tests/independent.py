@@ -1318,9 +1318,6 @@ def test_words():
             chain = chain_of(word)
             assert word_of(chain) == word
             yield f"{spaced(letters)} : {sum_of(chain)} {len(chain)} :{spaced(NUMBER[p] for p in chain)} :{spaced(word)}"
-    short = [text_of(w) for w in words if len(w) <= 3 and good(text_of(w))]
-    for u in short:
-        yield spaced("<" if u < v else "=" if u == v else ">" for v in short)
     runs = "0,63 0,64 1,63 1,64 2,40 2,41 3,40 3,41 0,254 1,254 2,254 3,254 4,2 255,2"
     edges = [[int(l)] * int(k) + [3] for l, k in (run.split(",") for run in runs.split())]
     letters = [3, 0, 3, 4, 3, 2, 0, 2, 3, 255]
@@ -1330,7 +1327,6 @@ def test_words():
         total = sum_of(chain_of("".join(l for l in text_of(word) if l in "0123")))
         weight = total if total < LIMIT else "over"
         yield ("good" if good(text_of(word)) else "bad") + f" {weight}" + told_of_word(word, 66) + told_of_word(word, 63)
-    yield " 7 7 7"
     powers = [NUMBER[63 - i, 0] for i in range(64)] + [0]
     records = [powers[0:0], powers[63:64], powers[:64], powers]
     pairs = "64,0,0,0 0,0,64,0 1,2,0,0 0,0,1,0 3,1,3,1 1,1,2,0 0,40,0,0 62,1,61,0 62,1,62,0 62,1,61,1 63,0,62,1"
@@ -1338,6 +1334,30 @@ def test_words():
         records.append([number_or_past(a, b), number_or_past(c, d)])
     for numbers in records:
         yield judged(numbers) + told_of_record(numbers, 66) + told_of_record(numbers, 63)
+
+
+def compared(u, v):
+    """How one word stands to another, as text; 7 if either is not good."""
+    u, v = text_of(u), text_of(v)
+    return "7" if not (good(u) and good(v)) else "<" if u < v else "=" if u == v else ">"
+
+
+@what
+def test_compare():
+    """Any two words of up to three letters among six; then long words that differ in one place, and beginnings of them."""
+    six = [0, 1, 2, 3, 4, 255]
+    short = [w for k in range(4) for w in itertools.product(six, repeat=k)]
+    for u in short:
+        yield "".join(compared(u, v) for v in short)
+    for count in (*range(1, 27), *range(63, 67), *range(127, 131)):
+        for filler in range(4):
+            before = [filler] * (count - 1) + [3]
+            line = ""
+            for place in range(count):
+                for letter in six:
+                    after = before[:place] + [letter] + before[place + 1 :]
+                    line += compared(before, after) + compared(after, before) + compared(before[:place], after)
+            yield line
 
 
 # ---- the services that find a chain or its position

@@ -1,9 +1,9 @@
 // The words of all chains of 0 to 300. Standard input has a record a line, part numbers in decimal with a space between them, those
 // of a number in the order of its list. For each the program prints the sum of the parts, the word, and how the word of the line
 // before stands to it: < where it is earlier, > where it is later.
+use comparing::Compared;
 use libc::STDIN_FILENO;
 use libc::STDOUT_FILENO;
-use words::Compared;
 use words::Judged;
 use words::Written;
 
@@ -84,7 +84,7 @@ fn first_numbers(numbers: &[u16], n: usize) -> &[u16] {
 }
 
 fn print_order(u: &[u8], v: &[u8]) {
-    let sign = match words::compare_words(u, v) {
+    let sign = match comparing::compare_words(u, v) {
         Compared::Earlier => b'<',
         Compared::Same => b'=',
         Compared::Later => b'>',

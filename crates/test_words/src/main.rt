@@ -1,8 +1,7 @@
 // Prints what the services on words answer. First all words of up to five letters 0 to 4: a good one with its number, its parts and
-// its word written from them, any other not at all; then how any two good words of up to three letters compare; then words at the
-// edges and damaged ones, and records that are refused or just fit, each with the lent places, which hold 170 at entry.
+// its word written from them, any other not at all; then words at the edges and damaged ones, and records that are refused or just
+// fit, each with the lent places, which hold 170 at entry.
 use libc::STDOUT_FILENO;
-use words::Compared;
 use words::Judged;
 use words::Parted;
 use words::Weighed;
@@ -129,49 +128,6 @@ fn print_words() {
     }
 }
 
-// ---- pairs of words
-
-fn print_compared(u: &[u8], v: &[u8]) {
-    match words::compare_words(u, v) {
-        Compared::Earlier => text(b" <"),
-        Compared::Same => text(b" ="),
-        Compared::Later => text(b" >"),
-        Compared::Refused(number) => print(wide(number)),
-    }
-}
-
-fn print_pair(u: &[u8], j: u64) {
-    let v = spell(j);
-    let from = v.from;
-    let letters = v.letters;
-    let word = &letters[from..5];
-    if words::is_good(word) {
-        print_compared(u, word);
-    }
-}
-
-fn print_row(u: &[u8]) {
-    if words::is_good(u) {
-        for j in 0..156 {
-            print_pair(u, j);
-        }
-        text(b"\n");
-    }
-}
-
-fn print_pairs(i: u64) {
-    let u = spell(i);
-    let from = u.from;
-    let letters = u.letters;
-    print_row(&letters[from..5]);
-}
-
-fn print_rows() {
-    for i in 0..156 {
-        print_pairs(i);
-    }
-}
-
 // ---- words at the edges, and damaged ones
 
 fn print_weight(word: &[u8]) {
@@ -258,20 +214,9 @@ fn show_cuts(letters: &[u8]) {
     show_cut(letters, 8, 10);
 }
 
-// A good word and one that is not, in each order, and the latter with itself.
-fn show_refused(good: &[u8], bad: &[u8]) {
-    print_compared(good, bad);
-    print_compared(bad, good);
-    print_compared(bad, bad);
-    text(b"\n");
-}
-
 fn show_damaged() {
     let letters = [3u8, 0, 3, 4, 3, 2, 0, 2, 3, 255];
     show_cuts(&letters);
-    let bad = [2u8];
-    let good = [3u8];
-    show_refused(&good, &bad);
 }
 
 // ---- records
@@ -344,7 +289,6 @@ fn show_records() {
 
 fn main() {
     print_words();
-    print_rows();
     show_words();
     show_damaged();
     show_records();

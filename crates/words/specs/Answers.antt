@@ -1,22 +1,12 @@
--- What the readers, the comparison and the weighing answer, at all inputs: document 01, 'Path words', 'Services and memory'.
-use mathlib.Core.Bool.{true, cond, _&&_}
+-- What the weighing answers, at all inputs: document 01, 'Path words', 'Services and memory'. What the readers answer is in the crate
+-- chains, in Words.
+use mathlib.Core.Bool.{cond}
 use Prim.Native.Nat.{ℕ, _^_}
 use lib.Dec.{ltb}
 use Rattle.chains.specs.Chains.{total}
-use Rattle.chains.specs.Words.{Word, chainOf, reads}
-use Rattle.chains.specs.Listing.{before}
-use Rattle.words.specs.declared.Compared.{Compared}
-use Rattle.words.specs.declared.Compared.the-variants.{Earlier, Same, Later, Refused}
+use Rattle.chains.specs.Words.{Word, chainOf}
 use Rattle.words.specs.declared.Weighed.{Weighed}
 use Rattle.words.specs.declared.Weighed.the-variants.{Number, Over}
-
--- How u stands to v in the dictionary, good or not.
-unfoldable pub orderOf : Word → Word → Compared
-orderOf u v = cond (before u v) Earlier (cond (before v u) Later Same)
-
--- The same for good words, and refusal 7 if either is not good.
-unfoldable pub comparedOf : Word → Word → Compared
-comparedOf u v = cond (reads true u && reads true v) (orderOf u v) (Refused 7)
 
 -- A number, or that it is 2^64 or more.
 unfoldable pub sized : ℕ → Weighed

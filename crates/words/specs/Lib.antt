@@ -1,8 +1,7 @@
--- What the services on words answer and leave behind. What a reader must believe, in this order: Answers (good words, comparing,
--- weighing), Records (a burned record), Conversions (from a record to its word, from a word to its parts), Packed (a word in two
--- numbers). The theorems on them:
+-- What the services on words answer and leave behind. What a reader must believe, in this order: Answers (weighing), Records (a burned
+-- record), Conversions (from a record to its word, from a word to its parts), Packed (a word in two numbers). How two words compare is in
+-- the crate comparing. The theorems on them:
 --   TestLaws     what an answer says of the tests that chose it
---   CompareLaws  comparing is the dictionary order, and 7
 --   RecordLaws   a record gets its sum exactly if it names a chain
 --   Refusals     which refusal a word and a record get: 7, 8, 9, 10
 --   WordLaws     chains through records and words
@@ -14,7 +13,6 @@ pub mod Answers
 pub mod Records
 pub mod Conversions
 pub mod TestLaws
-pub mod CompareLaws
 pub mod RecordLaws
 pub mod Refusals
 pub mod WordLaws

@@ -33,6 +33,15 @@ module _ {X : Type 0} where
 pub both-tests : (a b : Bool) → T (a && b) ↔ (T a × T b)
 both-tests a b = (λ t. (and-l a b t, and-r a b t), λ t. and-i a b (t .0) (t .1))
 
+pub both-first : (a b : Bool) → (a && b) ≡ true → a ≡ true
+both-first true b t = refl
+both-first false b t = t
+
+pub both-second : (a b : Bool) → (a && b) ≡ true → b ≡ true
+both-second true b t = t
+both-second false true t = refl
+both-second false false t = t
+
 -- A test that fails exactly if P holds.
 module _ {P : Type 0} where
   pub test-true : (b : Bool) → (P → b ≡ false) → (b ≡ false → P) → T b ↔ (¬ P)

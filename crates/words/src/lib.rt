@@ -1,8 +1,6 @@
-// Path words: which are good, how two stand in the dictionary, what number a word stands for. Records: what they get, and their
-// words.
+// Path words: which are good, what number a word stands for. Records: what they get, and their words.
 mod entries;
 mod letters;
-mod order;
 mod packing;
 mod readers;
 mod records;
@@ -13,18 +11,10 @@ ghost use mathlib.Core.Path.{_≡_};
 ghost use mathlib.Core.Bool.{true};
 ghost use lib.ListN.{length};
 ghost use Rattle.chains.specs.Words.{reads};
-ghost use Rattle.words.specs.Answers.{comparedOf, weighedOf};
+ghost use Rattle.words.specs.Answers.{weighedOf};
 ghost use Rattle.words.specs.Records.{judgedOf};
 ghost use Rattle.words.specs.Conversions.{writtenOf, lettersLeft, partedOf, numbersLeft};
 ghost use Rattle.words.specs.Packed.{packedOf, packedLetters, packedChain, partsLeft};
-
-// How a word stands to another, or document 01's number of a refusal.
-pub enum Compared {
-    Earlier,
-    Same,
-    Later,
-    Refused(u8),
-}
 
 // The number that a word stands for, or that it is 2^64 or more.
 pub enum Weighed {
@@ -69,16 +59,6 @@ pub fn is_good(letters: &[u8]) -> bool
 {
     let left = letters.len();
     readers::after_b(&letters, left) == 1
-}
-
-// How u stands to v in the dictionary, or refusal 7 if either is not good.
-pub fn compare_words(u: &[u8], v: &[u8]) -> Compared
-    ensures { λ r. ⌜ r ≡ comparedOf (now (u .entry)) (now (v .entry)) ⌝ }
-{
-    if is_good(u) & is_good(v) {
-        return order::in_order(u, v);
-    }
-    Compared::Refused(7)
 }
 
 // The number that a word stands for, or that it is 2^64 or more. Any bytes will do: one above 3 marks no part and moves to no
