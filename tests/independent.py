@@ -1344,20 +1344,23 @@ def compared(u, v):
 
 @what
 def test_compare():
-    """Any two words of up to three letters among six; then long words that differ in one place, and beginnings of them."""
-    six = [0, 1, 2, 3, 4, 255]
-    short = [w for k in range(4) for w in itertools.product(six, repeat=k)]
+    """All pairs of short words; long words that differ in one place, and beginnings of them; zeros with one 1; zeros of all lengths."""
+    letters = [0, 1, 2, 3, 4, 255, 19, 131]
+    short = [w for k in range(4) for w in itertools.product(letters[:6], repeat=k)]
     for u in short:
         yield "".join(compared(u, v) for v in short)
     for count in (*range(1, 27), *range(63, 67), *range(127, 131)):
         for filler in range(4):
-            before = [filler] * (count - 1) + [3]
-            line = ""
-            for place in range(count):
-                for letter in six:
-                    after = before[:place] + [letter] + before[place + 1 :]
-                    line += compared(before, after) + compared(after, before) + compared(before[:place], after)
-            yield line
+            old = [filler] * (count - 1) + [3]
+            changes = ((place, old[:place] + [letter] + old[place + 1 :]) for place in range(count) for letter in letters)
+            pairs = ((u, new) for place, new in changes for u in (old, old[:place]))
+            yield "".join(compared(u, v) + compared(v, u) for u, v in pairs)
+    for count in (*range(1, 27), *range(63, 67)):
+        ones = [[0] * place + [1] + [0] * (count - place - 2) + [3] for place in range(count - 1)] + [[0] * (count - 1) + [3]]
+        yield "".join(compared(u, v) for u in ones for v in ones)
+    zeros = [[0] * k + [3] for k in range(26)]
+    for u in zeros:
+        yield "".join(compared(u, v) for v in zeros)
 
 
 # ---- the services that find a chain or its position

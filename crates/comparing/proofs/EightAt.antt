@@ -29,7 +29,7 @@ eight-long w i h = length-take-le 8 (drop i w) (rw length-drop (omega arith))
 behind : (w : Word) (i : ℕ) → drop i w ≡ eight w i ++ drop (i + 8) w
 behind w i = sym (take-append-drop 8 (drop i w)) ∙ ap (λ l. eight w i ++ l) (drop-drop 8 i w)
 
--- Two words from a place on stand as the numbers of eight letters there, with the rests behind them.
+-- Two words from the place i on stand as two words that have the eight letters there as one letter, and then the rests.
 pub order-eight : (u v : Word) (i x y : ℕ) → EightOf (eight u i) x → EightOf (eight v i) y
     → orderOf (drop i u) (drop i v) ≡ orderOf (x ∷ drop (i + 8) u) (y ∷ drop (i + 8) v)
 order-eight u v i x y p q =

@@ -1,4 +1,4 @@
--- The test of some letters by the bits of their number is that of each letter after the one before it.
+-- The test of all letters of a number at once, by their bits, answers as the test of each letter after the one before it.
 -- In order: the test; one letter; a letter in front of others; any number of letters; eight letters, with a 3 before the first.
 use mathlib.Core.Path.{_≡_, refl, sym, ap, _∙_}
 use mathlib.Core.Bool.{Bool, true, false, _&&_}
@@ -12,18 +12,18 @@ use lib.Bits.{bitAnd, bitOr, and-block, or-block, and-lt, or-lt, and-le-l, and-l
 use lib.ListN.{length, getD, take, replicate, length-replicate}
 use borrow.Author.Tests.{ne-eqb}
 use Rattle.chains.specs.Words.{Word}
-use Rattle.comparing.specs.Eights.{Bytes, highFirst, EightOf, mayFollow, allFollow, allowedBits}
+use Rattle.comparing.specs.Eights.{Bytes, highFirst, EightOf, mayFollow, allFollow}
 use Rattle.comparing.specs.EightLaws.{digit-eq, eights-fit, one-behind}
 use Rattle.comparing.proofs.EightAt.{bytes-take}
 
 -- ---- the test
 
 -- The bits that the letters x may have: p are the letters before them, and ones and twos have a 1 and a 2 for each letter.
-unfoldable allowed : ℕ → ℕ → ℕ → ℕ → ℕ
+unfoldable pub allowed : ℕ → ℕ → ℕ → ℕ → ℕ
 allowed ones twos x p = bitOr ones (bitAnd twos (bitOr (bitAnd x ones * 2) p))
 
--- They have no others.
-unfoldable passes : ℕ → ℕ → ℕ → ℕ → Bool
+-- Whether they have no others.
+unfoldable pub passes : ℕ → ℕ → ℕ → ℕ → Bool
 passes ones twos x p = eqb (bitAnd x (allowed ones twos x p)) x
 
 -- ---- one letter
@@ -35,7 +35,7 @@ above-3 q x h =
     let l = or-lt 2 1 m (lit< tt) (omega (arith, and-le-l 2 (bitOr (bitAnd x 1 * 2) q))) in
     ne-eqb (bitAnd x (bitOr 1 m)) x (omega (arith, and-le-r x (bitOr 1 m)))
 
--- A letter q before it, 0 to 3.
+-- A letter q is one of 0 to 3.
 by-q : (P : ℕ → Type 0) → P 0 → P 1 → P 2 → P 3 → (q : ℕ) → q ≤ 3 → P q
 by-q P p₀ p₁ p₂ p₃ zero h = p₀
 by-q P p₀ p₁ p₂ p₃ (suc zero) h = p₁
@@ -136,11 +136,12 @@ passes-all q (x ∷ u) h b =
 -- ---- eight letters
 
 module _ (u : Word) (x : ℕ) (o : EightOf u x) where
-  pub follow-by-bits : eqb (bitAnd x (allowedBits x)) x ≡ allFollow 3 u
-  unfolding highFirst passes allowed allowedBits
+  pub follow-by-bits :
+      passes 0x0101_0101_0101_0101 0x0202_0202_0202_0202 x (0x0300_0000_0000_0000 + x / 256) ≡ allFollow 3 u
+  unfolding highFirst
   follow-by-bits =
-      let p : highFirst (take 8 (3 ∷ u)) ≡ 0x0300_0000_0000_0000 + highFirst u / 256 =
-      omega (arith, rw (o .long) at (without-last 8 (3 ∷ u) (ap suc (o .long))), o .bytes 7) in
+      let l = rw (o .long) at (without-last 8 (3 ∷ u) (ap suc (o .long))) in
+      let p : highFirst (take 8 (3 ∷ u)) ≡ 0x0300_0000_0000_0000 + highFirst u / 256 = omega (arith, l, o .bytes 7) in
       rw (o .number, ← p) (rw (o .long) at (passes-all 3 u (lit≤ tt) (o .bytes)))
 
   pub last-letter : x % 256 ≡ getD u 7 0

@@ -1,7 +1,8 @@
 -- Bytes as one number, the first highest: two such numbers stand to each other as their bytes do in the dictionary. The definitions are
 -- in Eights.
 -- In order: a digit in front of a number below the base; the number of bytes and its bound (`eights-fit`); bytes with anything behind
--- them stand in the dictionary as one letter would, their number (`before-one`, `order-one`); the theorem of record (`eights-order`).
+-- them stand in the dictionary as one letter would, their number (`before-one`, `order-one`); two words of as many bytes
+-- (`bytes-order`); the theorem of record, for eight (`eights-order`).
 use mathlib.Core.Path.{_≡_, refl, sym, ap, ap₂, _∙_}
 use mathlib.Core.Logic.{_↔_, _⊎_, inl, inr}
 use mathlib.Core.Bool.{Bool, true, false, _&&_, _||_}
@@ -18,7 +19,7 @@ use Rattle.chains.specs.Words.{Word}
 use Rattle.chains.specs.Listing.{before}
 use Rattle.chains.specs.Order.{before-cases}
 use Rattle.comparing.specs.Answers.{orderOf}
-use Rattle.comparing.specs.Eights.{Bytes, highFirst}
+use Rattle.comparing.specs.Eights.{Bytes, highFirst, EightOf}
 
 -- ---- a digit in front of a number below the base
 
@@ -66,10 +67,10 @@ module _ (b x y r s : ℕ) (hr : r < b) (hs : s < b) where
 -- ---- the number of some bytes
 
 -- One byte more.
-pub base-suc : (n : ℕ) → 2 ^ (8 * suc n) ≡ 256 * 2 ^ (8 * n)
+base-suc : (n : ℕ) → 2 ^ (8 * suc n) ≡ 256 * 2 ^ (8 * n)
 base-suc n = rw (mul-suc 8 n, pow-add 2 (8 * n) 8) (omega arith)
 
--- Eight bytes make a number of 64 bits.
+-- The number of n bytes is below 2^(8n); so that of eight bytes has 64 bits.
 pub eights-fit : (w : Word) → Bytes w → highFirst w < 2 ^ (8 * length w)
 unfolding highFirst
 eights-fit [] b = lit< tt
@@ -118,13 +119,12 @@ pub order-one : (u v s t : Word) → length u ≡ length v → Bytes u → Bytes
 unfolding orderOf
 order-one u v s t e p q = rw (before-one u v s t e p q, before-one v u t s (sym e) q p)
 
--- ---- the theorem of record
+-- ---- two words of as many bytes
 
--- Two words of as many bytes, eight for the comparison: their numbers are less or equal exactly if the words are, in dictionary order.
 module _ (u v : Word) (e : length u ≡ length v) (p : Bytes u) (q : Bytes v) where
-  less-is : before u v ≡ ltb (highFirst u) (highFirst v)
+  before-is : before u v ≡ ltb (highFirst u) (highFirst v)
   unfolding before
-  less-is =
+  before-is =
       ap₂ before (sym (append-nil u)) (sym (append-nil v))
       ∙ before-one u v [] [] e p q
       ∙ alone (ltb (highFirst u) (highFirst v)) (eqb (highFirst u) (highFirst v))
@@ -134,18 +134,24 @@ module _ (u v : Word) (e : length u ≡ length v) (p : Bytes u) (q : Bytes v) wh
       alone false true = refl
       alone false false = refl
 
-module _ (u v : Word) (e : length u ≡ length v) (p : Bytes u) (q : Bytes v) where
-  eights-less : (highFirst u < highFirst v) ↔ T (before u v)
-  eights-less = (
-    λ h. rw (less-is u v e p q) (lt→ltb (highFirst u) (highFirst v) h),
-    λ t. ltb→lt (highFirst u) (highFirst v) (rw (less-is u v e p q) at t),
+  bytes-less : (highFirst u < highFirst v) ↔ T (before u v)
+  bytes-less = (
+    λ h. rw before-is (lt→ltb (highFirst u) (highFirst v) h),
+    λ t. ltb→lt (highFirst u) (highFirst v) (rw before-is at t),
   )
 
-pub eights-order : (u v : Word) → length u ≡ length v → Bytes u → Bytes v
+-- One number is below the other exactly if its word is earlier, and the numbers are equal exactly if the words are.
+pub bytes-order : (u v : Word) → length u ≡ length v → Bytes u → Bytes v
     → ((highFirst u < highFirst v) ↔ T (before u v)) × ((highFirst u ≡ highFirst v) ↔ (u ≡ v))
-eights-order u v e p q = (eights-less u v e p q, (same (before-cases u v), ap highFirst))
+bytes-order u v e p q = (bytes-less u v e p q, (same (before-cases u v), ap highFirst))
   where
     same : T (before u v) ⊎ ((u ≡ v) ⊎ T (before v u)) → highFirst u ≡ highFirst v → u ≡ v
-    same (inl t) h = absurd (omega (arith, eights-less u v e p q .1 t))
+    same (inl t) h = absurd (omega (arith, bytes-less u v e p q .1 t))
     same (inr (inl d)) h = d
-    same (inr (inr t)) h = absurd (omega (arith, eights-less v u (sym e) q p .1 t))
+    same (inr (inr t)) h = absurd (omega (arith, bytes-less v u (sym e) q p .1 t))
+
+-- ---- the theorem of record
+
+-- The same of two numbers x and y of eight letters.
+pub eights-order : (u v : Word) (x y : ℕ) → EightOf u x → EightOf v y → ((x < y) ↔ T (before u v)) × ((x ≡ y) ↔ (u ≡ v))
+eights-order u v x y p q = rw (p .number, q .number) (bytes-order u v (p .long ∙ sym (q .long)) (p .bytes) (q .bytes))

@@ -1,11 +1,10 @@
 -- Eight letters at once: bytes as one number, and which letters may stand side by side. Definitions only; the theorems on them are in
--- EightLaws.
+-- EightLaws and FollowLaws.
 use mathlib.Core.Path.{_≡_}
 use mathlib.Core.Bool.{Bool, true, false, _&&_}
 use mathlib.Core.List.{[], _∷_}
-use Prim.Native.Nat.{ℕ, zero, suc, _+_, _*_, _/_, _^_, _<_}
+use Prim.Native.Nat.{ℕ, zero, suc, _+_, _*_, _^_, _<_}
 use lib.Dec.{ltb}
-use lib.Bits.{bitAnd, bitOr}
 use lib.ListN.{length, getD}
 use Rattle.chains.specs.Words.{Word}
 
@@ -36,10 +35,3 @@ mayFollow q (suc (suc (suc (suc x)))) = false
 unfoldable pub allFollow : ℕ → Word → Bool
 allFollow q [] = true
 allFollow q (x ∷ w) = mayFollow q x && allFollow x w
-
--- The bits that eight letters may have so that each may stand after the one before it, the first after a 3: bit 0, and bit 1 where bit 0
--- is or where the letter before has bit 1.
-unfoldable pub allowedBits : ℕ → ℕ
-allowedBits x =
-    bitOr 0x0101_0101_0101_0101
-    (bitAnd 0x0202_0202_0202_0202 (bitOr (bitAnd x 0x0101_0101_0101_0101 * 2) (0x0300_0000_0000_0000 + x / 0x0100)))

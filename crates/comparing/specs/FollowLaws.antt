@@ -1,7 +1,8 @@
 -- A word is good exactly if, with a 3 put in front, each letter may stand after the one before it and the last is 3: what the two
 -- readers say, said of neighbours. The definitions are in Eights.
--- In order: the letters after one letter (`goodAfter`); the readers by it; some letters and those after them; the theorem of record
--- (`reads-neighbours`); a word with its first letters left out (`reads-on`, `reads-off`), which the loop over eights asks for.
+-- In order: the letters after one letter (`goodAfter`), and the readers by it; the theorem of record (`reads-neighbours`); letters that
+-- follow are 0 to 3 (`follow-low`); a word without its first letters (`reads-drop`, `reads-false`) and with 3s in front
+-- (`reads-threes`), for the loop over eights.
 use mathlib.Core.Path.{_≡_, refl, sym, ap, _∙_}
 use mathlib.Core.Bool.{Bool, true, false, _&&_}
 use mathlib.Core.List.{[], _∷_, _++_}
@@ -108,11 +109,11 @@ off q (suc n) (x ∷ w) = go (mayFollow q x) (off x n w)
     go false r = refl
 
 -- The same of the readers.
-pub reads-on : (d n : ℕ) (w : Word) → d < n → n ≤ length w → allFollow 3 (take n w) ≡ true → reads true w ≡ reads true (drop d w)
-reads-on d n w h k t = reads-good w ∙ on d n w h k t ∙ sym (reads-good (drop d w))
+pub reads-drop : (d n : ℕ) (w : Word) → d < n → n ≤ length w → allFollow 3 (take n w) ≡ true → reads true w ≡ reads true (drop d w)
+reads-drop d n w h k t = reads-good w ∙ on d n w h k t ∙ sym (reads-good (drop d w))
 
-pub reads-off : (n : ℕ) (w : Word) → allFollow 3 (take n w) ≡ false → reads true w ≡ false
-reads-off n w t = reads-good w ∙ off 3 n w ∙ ap (λ f. f && goodAfter 3 w) t
+pub reads-false : (n : ℕ) (w : Word) → allFollow 3 (take n w) ≡ false → reads true w ≡ false
+reads-false n w t = reads-good w ∙ off 3 n w ∙ ap (λ f. f && goodAfter 3 w) t
 
 -- 3s in front of a word make no difference.
 pub reads-threes : (k : ℕ) (w : Word) → reads true (replicate k 3 ++ w) ≡ reads true w

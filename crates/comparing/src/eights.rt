@@ -3,11 +3,14 @@
 ghost use mathlib.Core.Path.{_≡_};
 ghost use mathlib.Core.List.{[], _∷_, _++_};
 ghost use Prim.Native.Nat.{_+_, _-_, _≤_, _<_};
+ghost use lib.Dec.{eqb};
+ghost use lib.Bits.{bitAnd};
 ghost use lib.ListN.{length, take, drop, replicate};
 ghost use Rattle.chains.specs.Words.{Word};
-ghost use Rattle.comparing.specs.Eights.{highFirst, EightOf, allFollow, allowedBits};
+ghost use Rattle.comparing.specs.Eights.{highFirst, EightOf, allFollow};
 
-// The number of eight bytes. They are added up two by two: then the compiler makes one load and one byte swap of eight loads.
+// Eight bytes as one number, the first highest. The sum is made in pairs: then the compiler makes one load and one byte swap of eight
+// loads.
 fn number_of(a: u8, b: u8, c: u8, d: u8, e: u8, f: u8, g: u8, h: u8) -> u64
     ensures { λ r. ⌜ r ≡ highFirst (a ∷ b ∷ c ∷ d ∷ e ∷ f ∷ g ∷ h ∷ []) ⌝ }
 {
@@ -33,7 +36,7 @@ pub fn eight_at(letters: &[u8], i: usize) -> u64
     )
 }
 
-// The number of eight letters with a letter put behind them and the first left out.
+// Eight letters without the first, and with another letter behind them.
 fn with_last(x: u64, letter: u8) -> u64
     ensures { λ r. ⌜ ((u : Word) → EightOf u x → EightOf (drop 1 u ++ (letter ∷ [])) r) ⌝ }
 {
@@ -54,10 +57,11 @@ pub fn few_letters(letters: &[u8]) -> u64
     x
 }
 
-// The bits that eight letters may have where each may stand after the one before it, the first after a 3: bit 0 always, bit 1 where
-// bit 0 stands too or the letter before has bit 1, and no other. So a letter is 0 to 3, and 2 only after 2 or 3.
+// The bits that each of eight letters may have after the letter before it; before the first stands a 3. Bit 0 is always allowed. Bit 1
+// is allowed where the letter has bit 0 too, or where the letter before has bit 1. No other bit is. So a letter is 0 to 3, and 2 only
+// after 2 or 3.
 pub fn allowed(x: u64) -> u64
-    ensures { λ r. ⌜ r ≡ allowedBits x ⌝ }
+    ensures { λ r. ⌜ ((u : Word) → EightOf u x → eqb (bitAnd x r) x ≡ allFollow 3 u) ⌝ }
 {
     let before = 0x0300_0000_0000_0000 + x / 0x0100;
     let raised = (x & 0x0101_0101_0101_0101) * 2;

@@ -1,7 +1,10 @@
-// Prints how two words compare, good or not: < earlier, = the same, > later, 7 refused. First any two words of up to three letters among
-// 0 to 4 and 255, a line for each first word. Then long words that differ in one place: a line for each length and each letter that
-// fills the word up to a last 3, and in it for each place and each of the six letters put there the word before the change with the one
-// after it, that one with the first, and the first up to the place with the one after it.
+// Prints how pairs of words compare: < earlier, = the same, > later, 7 refused.
+// First all pairs of words of up to three letters among 0 to 4 and 255, a line for each first word.
+// Then long words that differ in one place. A line is for a length and a filler: the word is the filler repeated, with a 3 at the end.
+// At each place each of eight letters is put, and four pairs are compared: the old word and the new one, both ways round, and the old
+// word cut off at the place and the new one, both ways round.
+// Then words of zeros with one 1 and a 3 at the end: all pairs of one length, a line for each length; and without the 1 all pairs of
+// lengths up to 26, a line for each first length.
 use comparing::Compared;
 use libc::STDOUT_FILENO;
 ghost use mathlib.Core.Path.{_≡_};
@@ -25,7 +28,7 @@ fn print_compared(u: &[u8], v: &[u8]) {
     }
 }
 
-// The six letters.
+// Letters in and above 0 to 3.
 fn letter_of(k: u64) -> u8 {
     match k {
         0 => 0,
@@ -33,7 +36,9 @@ fn letter_of(k: u64) -> u8 {
         2 => 2,
         3 => 3,
         4 => 4,
-        _ => 255,
+        5 => 255,
+        6 => 19,
+        _ => 131,
     }
 }
 
@@ -45,7 +50,7 @@ struct Spelled {
     from: usize,
 }
 
-// The words of the six letters in the order of their lengths, the empty one first.
+// The words of the first six letters in the order of their lengths, the empty one first.
 fn spell(index: u64) -> Spelled
     ensures { λ r. ⌜ (r .from ≤ 3) × (length (r .letters) ≡ 3) ⌝ }
 {
@@ -92,29 +97,30 @@ fn print_pairs() {
 
 // ---- long words that differ in one place
 
-fn show_words(before: &[u8], after: &[u8], place: usize) {
-    print_compared(before, after);
-    print_compared(after, before);
-    if place <= before.len() {
-        print_compared(&before[0..place], after);
-    }
+fn show_words(old: &[u8], new: &[u8], place: usize)
+    requires { ⌜ place ≤ length (now old) ⌝ }
+{
+    print_compared(old, new);
+    print_compared(new, old);
+    print_compared(&old[0..place], new);
+    print_compared(new, &old[0..place]);
 }
 
 fn show_change(filler: u8, count: usize, place: usize, letter: u8)
     requires { ⌜ (place < count) × (count ≤ 130) ⌝ }
 {
-    let mut before = [filler; 130];
-    before[count - 1] = 3;
-    let mut after = [filler; 130];
-    after[count - 1] = 3;
-    after[place] = letter;
-    show_words(&before[0..count], &after[0..count], place);
+    let mut old = [filler; 130];
+    old[count - 1] = 3;
+    let mut new = [filler; 130];
+    new[count - 1] = 3;
+    new[place] = letter;
+    show_words(&old[0..count], &new[0..count], place);
 }
 
 fn show_place(filler: u8, count: usize, place: usize)
     requires { ⌜ (place < count) × (count ≤ 130) ⌝ }
 {
-    for k in 0..6 {
+    for k in 0..8 {
         show_change(filler, count, place, letter_of(k));
     }
 }
@@ -128,7 +134,7 @@ fn show_places(filler: u8, count: usize)
     text(b"\n");
 }
 
-fn show_count(count: usize)
+fn show_fillers(count: usize)
     requires { ⌜ count ≤ 130 ⌝ }
 {
     for filler in 0..4 {
@@ -136,17 +142,81 @@ fn show_count(count: usize)
     }
 }
 
-fn show_counts(from: usize, to: usize)
+fn show_changes(from: usize, to: usize)
     requires { ⌜ to ≤ 131 ⌝ }
 {
     for count in from..to {
-        show_count(count);
+        show_fillers(count);
+    }
+}
+
+// ---- words of zeros with one 1
+
+// Zeros with a 1 at the place, and a 3 at the end of `count` letters. The last place has the 3 alone.
+fn with_one(count: usize, place: usize) -> [u8; 130]
+    requires { ⌜ (place < count) × (count ≤ 130) ⌝ }
+    ensures { λ r. ⌜ length r ≡ 130 ⌝ }
+{
+    let mut word = [0u8; 130];
+    word[place] = 1;
+    word[count - 1] = 3;
+    word
+}
+
+fn show_pair(m: usize, p: usize, n: usize, q: usize)
+    requires { ⌜ (p < m) × (m ≤ 130) × (q < n) × (n ≤ 130) ⌝ }
+{
+    let u = with_one(m, p);
+    let v = with_one(n, q);
+    print_compared(&u[0..m], &v[0..n]);
+}
+
+fn show_row(count: usize, p: usize)
+    requires { ⌜ (p < count) × (count ≤ 130) ⌝ }
+{
+    for q in 0..count {
+        show_pair(count, p, count, q);
+    }
+}
+
+fn show_ones(count: usize)
+    requires { ⌜ count ≤ 130 ⌝ }
+{
+    for p in 0..count {
+        show_row(count, p);
+    }
+    text(b"\n");
+}
+
+fn show_all_ones(from: usize, to: usize)
+    requires { ⌜ to ≤ 131 ⌝ }
+{
+    for count in from..to {
+        show_ones(count);
+    }
+}
+
+fn show_length(m: usize)
+    requires { ⌜ (1 ≤ m) × (m ≤ 130) ⌝ }
+{
+    for n in 1..27 {
+        show_pair(m, m - 1, n, n - 1);
+    }
+    text(b"\n");
+}
+
+fn show_lengths() {
+    for m in 1..27 {
+        show_length(m);
     }
 }
 
 fn main() {
     print_pairs();
-    show_counts(1, 27);
-    show_counts(63, 67);
-    show_counts(127, 131);
+    show_changes(1, 27);
+    show_changes(63, 67);
+    show_changes(127, 131);
+    show_all_ones(1, 27);
+    show_all_ones(63, 67);
+    show_lengths();
 }

@@ -5,10 +5,10 @@ use Rattle.test_compare.proofs.show_place.Statement.{statement}
 use Rattle.test_compare.proofs.show_place.Tie as tie
 
 abbrev Inv-loop : tie.InvT-loop
-Inv-loop filler count place k₀ k = k ≤ 6
+Inv-loop filler count place k₀ k = k ≤ 8
 
 abbrev μ-loop : tie.MeasureT-loop
-μ-loop filler count place k₀ k = 6 - k
+μ-loop filler count place k₀ k = 8 - k
 
 pub show-place-spec : {M : Type 1} → statement M
 show-place-spec =

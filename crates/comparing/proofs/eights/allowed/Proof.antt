@@ -1,15 +1,14 @@
--- A bit for each letter, doubled, stays below 2^64.
-use mathlib.Core.Path.{refl}
+-- A bit for each letter, doubled, stays below 2^64; what the allowed bits say of the letters is a law.
 use native.Mathlib.Omega.{arith}
 use lib.Bits.{and-le-r}
 use borrow.Author.Needs.{needs}
-use Rattle.comparing.specs.Eights.{allowedBits}
+use Rattle.comparing.proofs.EightBits.{passes, allowed, follow-by-bits}
 use Rattle.comparing.proofs.eights.allowed.Statement.{statement}
 use Rattle.comparing.proofs.eights.allowed.Tie as tie
 
 returns : tie.Need-returns
-unfolding allowedBits
-returns c = refl
+unfolding passes allowed
+returns c u o = follow-by-bits u (c .args .x) o
 
 pub allowed-spec : {M : Type 1} → statement M
 allowed-spec =

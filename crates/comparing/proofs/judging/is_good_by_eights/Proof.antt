@@ -2,17 +2,18 @@
 -- eight letters.
 use mathlib.Core.Path.{_≡_, refl, sym, ap, _∙_}
 use mathlib.Core.Bool.{Bool, true, false}
-use Prim.Native.Nat.{ℕ, zero, suc, _+_, _-_, _≤_}
+use Prim.Native.Nat.{ℕ, zero, suc, _+_, _-_, _≤_, _<_}
 use native.Mathlib.Nat.{le-refl}
 use native.Mathlib.Decide.{decLe}
 use native.Mathlib.Omega.{arith}
+use lib.Dec.{lit<}
 use lib.ListN.{length, take, drop, length-drop}
 use lib.Seq.{drop-drop, take-all}
 use borrow.Author.Needs.{needs}
 use borrow.Author.Tests.{not-true, not-false}
 use Rattle.chains.specs.Words.{Word, reads}
 use Rattle.comparing.specs.Eights.{allFollow}
-use Rattle.comparing.specs.FollowLaws.{reads-on, reads-off, reads-threes}
+use Rattle.comparing.specs.FollowLaws.{reads-drop, reads-false, reads-threes}
 use Rattle.comparing.proofs.judging.is_good_by_eights.Statement.{statement}
 use Rattle.comparing.proofs.judging.is_good_by_eights.Tie as tie
 
@@ -26,19 +27,19 @@ module _ (l : Word) where
   at-start (suc j) h = absurd (omega arith)
 
   module _ (i : ℕ) (g : AsGood i) where
-    -- Eight letters follow each other at i: the first seven may be left out.
-    seven-on : i + 8 ≤ length l → allFollow 3 (take 8 (drop i l)) ≡ true → AsGood (i + 7)
-    seven-on h t j k = go (decLe j i)
+    -- Eight letters follow each other at i: up to seven of them may be left out.
+    further : (d : ℕ) → d < 8 → i + 8 ≤ length l → allFollow 3 (take 8 (drop i l)) ≡ true → AsGood (i + d)
+    further d m h t j k = go (decLe j i)
       where
         go : Dec (j ≤ i) → reads true l ≡ reads true (drop j l)
         go (yes n) = g j n
         go (no n) =
             let d : i + (j - i) ≡ j = omega arith in
-            g i (le-refl i) ∙ reads-on (j - i) 8 (drop i l) (omega arith) (rw length-drop (omega arith)) t
+            g i (le-refl i) ∙ reads-drop (j - i) 8 (drop i l) (omega arith) (rw length-drop (omega arith)) t
             ∙ ap (reads true) (drop-drop (j - i) i l ∙ ap (λ n. drop n l) d)
 
     stop : allFollow 3 (take 8 (drop i l)) ≡ false → false ≡ reads true l
-    stop t = sym (g i (le-refl i) ∙ reads-off 8 (drop i l) t)
+    stop t = sym (g i (le-refl i) ∙ reads-false 8 (drop i l) t)
 
     -- The last eight letters decide.
     at-end : (n : ℕ) (r : Bool) → n ≤ i → n + 8 ≡ length l → r ≡ reads true (take 8 (drop n l)) → r ≡ reads true l
@@ -65,7 +66,7 @@ loop-again : tie.Need-loop-again Inv-loop μ-loop
 loop-again c =
     let f = c .before in
     let l = f .before .before .before in
-    seven-on _ (l .loop .i) (l .loop .inv) (search needs)
+    further _ (l .loop .i) (l .loop .inv) _ (lit< tt) (search needs)
     (sym (f .follow .ensures _ (f .before .eight-at .ensures)) ∙ not-false (f .follow .result) (c .if2 .left))
 
 returns-3 : tie.Need-returns-3 Inv-loop μ-loop

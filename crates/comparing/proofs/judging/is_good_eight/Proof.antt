@@ -11,9 +11,9 @@ use lib.ListN.{length, getD}
 use borrow.Author.Needs.{needs}
 use borrow.Author.Tests.{eqb-true, eqb-false, eq-eqb, ne-eqb}
 use Rattle.chains.specs.Words.{Word, reads}
-use Rattle.comparing.specs.Eights.{EightOf, allFollow, allowedBits}
+use Rattle.comparing.specs.Eights.{EightOf, allFollow}
 use Rattle.comparing.specs.FollowLaws.{reads-neighbours, follow-low}
-use Rattle.comparing.proofs.EightBits.{follow-by-bits, last-letter}
+use Rattle.comparing.proofs.EightBits.{last-letter}
 use Rattle.comparing.proofs.judging.is_good_eight.Statement.{statement}
 use Rattle.comparing.proofs.judging.is_good_eight.Tie as tie
 
@@ -36,14 +36,15 @@ module _ (u : Word) (x : ℕ) (o : EightOf u x) where
       let l : x % 4 ≡ getD u 7 0 = omega (arith, last-letter u x o, follow-low 3 u t 7 (omega (arith, o .long))) in
       ap (λ y. eqb y 3) (l ∙ ap (λ n. getD (3 ∷ u) n 0) (sym (o .long)))
 
-  good-by-bits : eqb (bitAnd x (allowedBits x)) (bitOr x 3) ≡ reads true u
-  good-by-bits =
-      both-bits x (bitAnd x (allowedBits x)) (and-le-l x (allowedBits x))
-      ∙ ap (λ f. f && eqb (x % 4) 3) (follow-by-bits u x o)
-      ∙ ends (allFollow 3 u) refl ∙ sym (reads-neighbours u)
+  good-by-bits : (a : ℕ) → eqb (bitAnd x a) x ≡ allFollow 3 u → eqb (bitAnd x a) (bitOr x 3) ≡ reads true u
+  good-by-bits a f =
+      both-bits x (bitAnd x a) (and-le-l x a)
+      ∙ ap (λ t. t && eqb (x % 4) 3) f
+      ∙ ends (allFollow 3 u) refl
+      ∙ sym (reads-neighbours u)
 
 returns : tie.Need-returns
-returns c u o = rw (c .allowed .ensures) (good-by-bits u (c .before .args .x) o)
+returns c u o = good-by-bits u (c .before .args .x) o (c .allowed .result) (c .allowed .ensures u o)
 
 pub is-good-eight-spec : {M : Type 1} → statement M
 is-good-eight-spec = tie.close (tie.spec (λ c κs. search needs) returns)

@@ -1,8 +1,8 @@
--- `show_count` is safe and ends.
+-- `show_fillers` is safe and ends.
 use Prim.Native.Nat.{_≤_, _-_}
 use borrow.Author.Needs.{needs}
-use Rattle.test_compare.proofs.show_count.Statement.{statement}
-use Rattle.test_compare.proofs.show_count.Tie as tie
+use Rattle.test_compare.proofs.show_fillers.Statement.{statement}
+use Rattle.test_compare.proofs.show_fillers.Tie as tie
 
 abbrev Inv-loop : tie.InvT-loop
 Inv-loop count filler₀ filler = filler ≤ 4
@@ -10,8 +10,8 @@ Inv-loop count filler₀ filler = filler ≤ 4
 abbrev μ-loop : tie.MeasureT-loop
 μ-loop count filler₀ filler = 4 - filler
 
-pub show-count-spec : {M : Type 1} → statement M
-show-count-spec =
+pub show-fillers-spec : {M : Type 1} → statement M
+show-fillers-spec =
     tie.close
     (tie.spec Inv-loop μ-loop
     (λ c. search needs)

@@ -1,17 +1,17 @@
--- `show_counts` is safe and ends.
+-- `show_row` is safe and ends.
 use Prim.Native.Nat.{_≤_, _-_}
 use borrow.Author.Needs.{needs}
-use Rattle.test_compare.proofs.show_counts.Statement.{statement}
-use Rattle.test_compare.proofs.show_counts.Tie as tie
+use Rattle.test_compare.proofs.show_row.Statement.{statement}
+use Rattle.test_compare.proofs.show_row.Tie as tie
 
 abbrev Inv-loop : tie.InvT-loop
-Inv-loop from to count₀ count = to ≤ 131
+Inv-loop count p q₀ q = count ≤ 130
 
 abbrev μ-loop : tie.MeasureT-loop
-μ-loop from to count₀ count = to - count
+μ-loop count p q₀ q = count - q
 
-pub show-counts-spec : {M : Type 1} → statement M
-show-counts-spec =
+pub show-row-spec : {M : Type 1} → statement M
+show-row-spec =
     tie.close
     (tie.spec Inv-loop μ-loop
     (λ c. search needs)
