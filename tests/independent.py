@@ -11,7 +11,8 @@ largest down by what n leaves modulo the part taken last. test_best finds its be
 (tests/grown.py). Tree words: the six lines as T-05 writes them, letters read on parts and undone on parts (tree_words, read_back,
 tree_word_of). At every run check_003 holds the engine to the search, on whole lists, check_one_price holds the replies to those that were
 stored when an addition had one price, check_no_exponents to those that were stored before T-06, check_trees holds tree words to the chains
-that the search finds, and check_exponents holds a and b of every part to its value.
+that the search finds, check_exponents holds a and b of every part to its value, and check_bench holds moves and walks to 003's section 2.3 and
+theorem 1 on the chains that the search finds.
 
 Not shared with the crates:
 - any code;
@@ -25,10 +26,14 @@ Not shared with the crates:
   chain's tree word is found by undoing letters on its parts. No path word is used;
 - the tree letter that n and the path's next rise decide: here both ways are tried, and exactly one word must come of it;
 - the test of a tree word from its first letter on: here from its last letter back, which of its ends are tree words;
-- a and b worked out of a part's number: here the part is looked up in the sorted list of points (TABLE), which holds them.
+- a and b worked out of a part's number: here the part is looked up in the sorted list of points (TABLE), which holds them;
+- moves and walks by arithmetic on rows as 64-bit numbers: here a chain is a set of points, an upward move is 003's words on this set, a
+  downward move is found among the sets that an upward move may come from, each tried with the upward move, and a walk goes part by part;
+- the test that a state is a chain of n, by remainders and a sum from the highest row down that stays below n: here values of any size.
 
 Shared with the crates:
 - the definitions of documents 01 and 02 and of 003, T-05's six lines among them, and the order of the refusals;
+- what each number of a lent bench stands for, as crates/bench says, for the digests and to know what a spoiled one holds;
 - that what follows a part sums to less than the part;
 - that a best chain is best up to each of its points, so that one chain a point is enough;
 - that the letters between two parts are those of a run of b and a run of a. The engine writes them so, as crates/words does; word_of below
@@ -370,6 +375,7 @@ def check_003():
     check_one_price()
     check_no_exponents()
     check_trees(2000)
+    check_bench()
     for n in BY_SEARCH:
         chains = chains_of(n)
         check_list(n, sorted((word_of(c), c) for c in chains))
@@ -1561,6 +1567,456 @@ def test_table():
             yield f"{count(n)} {SCRATCH} {size}"
     for n in SPECIAL:
         yield f"1 0 {SHORT}"
+
+
+# ---- the bench: T-08. A chain, and any state, is the set of its points
+
+
+def raised(chain, kind, b):
+    """The upward move at row b by 003's words, section 2.3, with document 02's condition; or None."""
+    row = [x for x, y in chain if y == b]
+    if not row:
+        return None
+    a = max(row)
+    if (a - 1, b) in chain:
+        return chain - {(a, b), (a - 1, b)} | {(a - 1, b + 1)} if kind == 1 else None
+    contiguous = set(itertools.takewhile(chain.__contains__, ((a - i, b) for i in itertools.count(2))))
+    c = a - 2 if not contiguous else min(contiguous)[0] - 1
+    if kind != 2 or c < 0 or any(y < b and x > c for x, y in chain):
+        return None
+    return chain - {(a, b)} - contiguous | {(x, b + 1) for x, _ in contiguous} | {(c, b), (c, b + 1)}
+
+
+def is_chain(points):
+    """Whether each is a proper multiple of the next smaller one."""
+    values = sorted(2**a * 3**b for a, b in points)
+    return all(x < y and y % x == 0 for x, y in zip(values, values[1:]))
+
+
+def before(chain, kind, b):
+    """What the move of a kind at row b may have been made from: sets of points, by what such a move adds."""
+    for x in (x for x, y in chain if y == b + 1):
+        if kind == 1:
+            yield chain - {(x, b + 1)}, {(x + 1, b), (x, b)}
+        elif kind == 2 and (x, b) in chain:
+            run = list(itertools.takewhile(chain.__contains__, ((i, b + 1) for i in itertools.count(x + 1))))
+            for k in range(len(run) + 1):
+                yield chain - {(x, b), (x, b + 1)} - set(run[:k]), {(i, b) for i, _ in run[:k]} | {(x + k + 2, b)}
+
+
+def lowered(chain, kind, b):
+    """The downward move: the one chain that the upward move of this kind at row b leads here from; or None."""
+    kept = (rest | more for rest, more in before(chain, kind, b) if not rest & more)
+    found = [d for d in kept if is_chain(d) and raised(d, kind, b) == chain]
+    assert len(found) <= 1
+    return found[0] if found else None
+
+
+@functools.lru_cache(200000)
+def moved(chain, kind, up, row):
+    return raised(chain, kind, row) if up else lowered(chain, kind, row)
+
+
+def step_of_walk(chain):
+    """A step of theorem 1, at the smallest part of the highest row: 3 = 1 + 2, or 1 + 3 = 4 with what it is generalized to."""
+    b = max(y for _, y in chain)
+    a = min(x for x, y in chain if y == b)
+    if (a, b - 1) not in chain:
+        return chain - {(a, b)} | {(a, b - 1), (a + 1, b - 1)}
+    run = set(itertools.takewhile(chain.__contains__, ((x, b) for x in itertools.count(a))))
+    below = {(x, b - 1) for x, _ in run}
+    return chain - run - {(a, b - 1)} | below - {(a, b - 1)} | {(max(run)[0] + 2, b - 1)}
+
+
+@functools.cache
+def walk_of(chain):
+    """The number of moves to the binary chain, and this chain."""
+    moves = 0
+    while any(y for _, y in chain):
+        chain = step_of_walk(chain)
+        moves += 1
+    return moves, chain
+
+
+class Bench:
+    """A present state, and states under names 0 to 7. All 64-bit numbers that the caller may put in the rows are sets of points too."""
+
+    def __init__(self):
+        ones = frozenset(itertools.product(range(64), range(41)))
+        self.n, self.present, self.states, self.saved = LIMIT - 1, ones, (ones,) * 8, (True,) * 8
+
+    def open(self, numbers):
+        refusal = refusal_of_record(numbers)
+        if refusal:
+            return refusal
+        self.present = frozenset(TABLE[i] for i in numbers)
+        self.n, self.states, self.saved = sum_of(self.present), (frozenset(),) * 8, (False,) * 8
+        return 0
+
+    def is_sound(self):
+        return is_chain_of(self.present, self.n) and all(is_chain_of(self.states[i], self.n) for i in range(8) if self.saved[i])
+
+    def move(self, kind, up, row):
+        after = moved(self.present, kind, up, row) if self.is_sound() else None
+        if after is None:
+            return 17
+        self.present = after
+        return 0
+
+    def save(self, name):
+        if not self.is_sound():
+            return 17
+        if name > 7:
+            return 18
+        self.states, self.saved = replaced(self.states, name, self.present), replaced(self.saved, name, True)
+        return 0
+
+    def come_back(self, name):
+        if not self.is_sound():
+            return 17
+        if name > 7 or not self.saved[name]:
+            return 18
+        self.present = self.states[name]
+        return 0
+
+    def walk(self):
+        """The number of moves and of parts, or None."""
+        if not self.is_sound():
+            return None
+        moves, self.present = walk_of(self.present)
+        return moves, len(self.present)
+
+    def tell(self):
+        """n and the part numbers, or None."""
+        return (self.n, [NUMBER[p] for p in largest_first(self.present)]) if self.is_sound() else None
+
+    def put(self, at, x):
+        """A number of the lent memory replaced, as the bench's crate numbers them: the states' rows, n, the names."""
+        state, row = divmod(at, 41)
+        if state == 0:
+            self.present = with_row(self.present, row, x)
+        elif state < 9:
+            self.states = replaced(self.states, state - 1, with_row(self.states[state - 1], row, x))
+        elif at == 369:
+            self.n = x
+        elif at < 378:
+            self.saved = replaced(self.saved, at - 370, x != 0)
+
+    def digest(self):
+        return bench_digest(self.present, self.states, self.n, self.saved)
+
+
+def replaced(values, i, x):
+    return (*values[:i], x, *values[i + 1 :])
+
+
+def with_row(state, row, x):
+    """The state with the points (a, row) for each a whose bit of x is 1, and no others in this row."""
+    return frozenset(p for p in state if p[1] != row) | {(a, row) for a in range(64) if x >> a & 1}
+
+
+@functools.lru_cache(1000)
+def bench_digest(present, states, n, saved):
+    digests = functools.reduce(mixed, map(state_digest, (present, *states)), 0)
+    return mixed(mixed(digests, n), functools.reduce(mixed, saved, 0))
+
+
+@functools.lru_cache(200000)
+def is_chain_of(state, n):
+    return is_chain(state) and sum_of(state) == n
+
+
+def largest_first(points):
+    return sorted(points, key=lambda p: -(2 ** p[0] * 3 ** p[1]))
+
+
+def shifted(x):
+    x ^= (x << 13) % LIMIT
+    x ^= x >> 7
+    return x ^ (x << 17) % LIMIT
+
+
+def mixed(digest, x):
+    return shifted((digest + x + 1) % LIMIT)
+
+
+@functools.lru_cache(200000)
+def state_digest(state):
+    """The rows that have a part, each with its b: bit a is 1 where 2^a × 3^b is a part."""
+    rows = sorted({b for _, b in state})
+    return functools.reduce(mixed, (x for b in rows for x in (b, sum(2**a for a, y in state if y == b))), 0)
+
+
+def check_bench():
+    """003's figure 4 and document 02's example; each move leads to a chain of n and back, in both directions; each graph is connected.
+
+    Every walk is one of downward moves, and ends with the binary chain after at most as many moves as there are points with b at least 1. The
+    walk from 3^40 has 453 moves. The longest known has 516.
+    """
+    for n, chains in enumerate(chains_up_to(300)):
+        check_graph(n, [frozenset(chain) for chain in chains])
+    check_graph(27, [frozenset(chain_of(word)) for word in "11013 13003 1333 21003 2133 2213 2223".split()])
+    apart = frozenset([(2, 1), (2, 0)])
+    assert is_chain(apart) and not is_chain({(0, 2), (2, 0), (0, 1)}) and raised(apart, 1, 1) is None and raised(apart, 2, 1) is None
+    assert raised(apart - {(2, 0)}, 2, 1) == {(0, 2), (0, 1)} and raised(apart, 2, 0) == {(2, 1), (0, 1), (0, 0)}
+    assert walk_of(frozenset([(0, 40)]))[0] == 453 and walk_of(frozenset((0, b) for b in LONGEST_WALK))[0] == 516
+    assert sum_of((0, b) for b in LONGEST_WALK) == 12358485572361037497 and len([p for p in POINTS if p[1] > 0]) == 1280
+
+
+def check_graph(n, chains):
+    reached, waiting = {chains[0]}, [chains[0]]
+    neighbours = {c: [moved(c, kind, up, b) for kind, up, b in ALL_MOVES if moved(c, kind, up, b) is not None] for c in chains}
+    for c, (kind, up, b) in itertools.product(chains, ALL_MOVES):
+        d = moved(c, kind, up, b)
+        assert d is None or is_chain_of(d, n) and d != c and moved(d, kind, not up, b) == c
+    while waiting:
+        new = [d for d in neighbours[waiting.pop()] if d not in reached]
+        reached |= set(new)
+        waiting += new
+    assert reached == set(chains)
+    points = len([p for p in POINTS if p[1] > 0 and VALUE[p] <= n])
+    for c in chains:
+        check_walk(c, n, points)
+
+
+def check_walk(chain, n, most):
+    moves, end = walk_of(chain)
+    assert moves <= most and end == {(a, 0) for a in range(64) if n >> a & 1}
+    for _ in range(moves):
+        b = max(y for _, y in chain) - 1
+        (after,) = [d for d in (lowered(chain, 1, b), lowered(chain, 2, b)) if d is not None]
+        assert after == step_of_walk(chain)
+        chain = after
+
+
+ALL_MOVES = list(itertools.product((1, 2), (True, False), range(8)))
+LONGEST_WALK = [40, 36, 35, 31, 29, 27, 20, 16, 14, 13, 12, 11, 10]
+LOUD = (3**40, 12358485572361037497)
+
+
+class Tally:
+    """What was asked of a bench, and what came of it. Lines are gathered, for a number to 27 and for a loud walk."""
+
+    def __init__(self, bench):
+        self.bench, self.n, self.lines = bench, bench.n, []
+        self.chains = self.done = self.refused = self.walked = self.digest = 0
+
+    def mix(self, *values):
+        for x in values:
+            self.digest = mixed(self.digest, x)
+
+    def noted(self, reply):
+        self.mix(reply, self.bench.digest())
+        if reply:
+            self.refused += 1
+        else:
+            self.done += 1
+        return reply == 0
+
+    def told(self):
+        n, numbers = self.bench.tell()
+        self.mix(n, len(numbers), functools.reduce(mixed, numbers + [0] * (64 - len(numbers)), 0))
+
+    def print_told(self, before=""):
+        if self.n <= 27:
+            self.lines.append(before + told_chain(self.bench))
+
+    def walk(self):
+        moves, k = self.bench.walk()
+        self.mix(moves, k)
+        self.walked += moves
+        self.noted(0)
+
+    def there_and_back(self, kind, up, row):
+        if self.noted(self.bench.move(kind, up, row)):
+            self.print_told(f" {kind}{'+' if up else '-'}{row} ")
+            self.told()
+            self.noted(self.bench.move(kind, not up, row))
+
+    def every_move(self, end):
+        self.print_told()
+        self.told()
+        for row, kind, up in itertools.product([*range(end), 39, 40, 41, 128, 255], range(4), (True, False)):
+            self.there_and_back(kind, up, row)
+
+    def walk_by_moves(self):
+        while True:
+            row = max((b for _, b in self.bench.present), default=0) - 1
+            if row < 0:
+                return
+            kind = next(kind for kind in (1, 2) if self.noted(self.bench.move(kind, False, row)))
+            if self.n in LOUD:
+                self.lines.append(f"{kind}-{row} {state_digest(self.bench.present)}")
+
+    def both_walks(self):
+        name = self.n % 8
+        self.noted(self.bench.save(name))
+        self.walk()
+        self.told()
+        self.noted(self.bench.come_back(name))
+        self.walk_by_moves()
+        self.noted(self.bench.come_back(name))
+
+    def line(self):
+        return f"{self.n} {self.chains} {self.done} {self.refused} {self.walked} {self.digest}"
+
+
+def told_chain(bench):
+    told = bench.tell()
+    return "17" if told is None else f"{told[0]} ({spaced(told[1])} )"
+
+
+def stroll_step(tally, x):
+    """Moves mostly; saves, returns, walks and telling now and then."""
+    bench, choice, y = tally.bench, x % 32, x >> 8
+    if choice == 0:
+        tally.noted(bench.save(y % 9))
+    elif choice == 1:
+        tally.noted(bench.come_back(y % 9))
+    elif choice == 2:
+        tally.walk() if y % 8 == 0 else tally.told()
+    else:
+        kind, up = {0: 0, 1: 3, 2: 255}.get(y % 16, 1 + y % 2), (x >> 16) % 2 == 1
+        any_row, choice = (x >> 24) % 41, (x >> 24) // 41
+        rows = sorted({b for _, b in bench.present})
+        near = next((b for b in rows if b >= any_row), rows[0])
+        row = any_row if choice % 8 == 0 else near if up else near - 1
+        tally.noted(bench.move(kind, up, row if row >= 0 else 255))
+
+
+def stroll_lines(bench):
+    tally = Tally(bench)
+    tally.chains = 1
+    for _ in range(8):
+        x = mixed(tally.digest, tally.n)
+        for _ in range(500):
+            x = shifted(x)
+            stroll_step(tally, x)
+        yield " " + tally.line()
+
+
+@functools.cache
+def bench_records():
+    """Those of all chains of 0 to 300; of some 64-bit numbers; refused ones."""
+    chance = random.Random(8)
+    small = [numbers_of(chain) for entries in listing(300) for _, chain in entries]
+    numbers = [LIMIT - 1, 3 * 2**62 - 1, (2**36 * 3**19 - 27) // 5, 2**63, 3**40 - 1, 3**40 + 1, *itertools.islice(shifts(50), 10, 22)]
+    large = [chain_of(word_at(n, chance.randrange(count(n)))) for n in numbers]
+    large += [[(0, 40)], [(0, b) for b in LONGEST_WALK], chain_of(word_at(3**40, 0)), [(62, 1), (61, 0)]]
+    bad = [[1344], [0, 1344], [1344, 0], [0, 0], [0, 1], [5, 6], [2, 1], TWOS + [0], [NUMBER[62, 1], NUMBER[61, 1]], [1343, 9999]]
+    bad += [[NUMBER[63, 0], NUMBER[62, 0], NUMBER[62, 0]], [NUMBER[62, 1], NUMBER[62, 0]], [NUMBER[1, 1], NUMBER[0, 2]]]
+    return [[1344], *small, *bad, *map(numbers_of, large), *bad]
+
+
+@what
+def test_bench_stdin():
+    return (" ".join(map(str, numbers)) for numbers in bench_records())
+
+
+def record_tallies():
+    """One bench, opened on each record in turn."""
+    bench, tally = Bench(), None
+    for numbers in bench_records():
+        refusal = bench.open(numbers)
+        if tally and (refusal or tally.n != bench.n or bench.n > 300):
+            yield from [*tally.lines, tally.line()]
+            tally = None
+        if refusal:
+            yield f"{refusal} {bench.digest()}"
+            continue
+        tally = tally or Tally(bench)
+        tally.chains += 1
+        tally.every_move(8 if bench.n <= 300 else 39)
+        tally.both_walks()
+        if bench.n > 300:
+            yield from [*tally.lines, tally.line(), *stroll_lines(bench)]
+            tally = None
+
+
+def asked(bench):
+    """Everything that can be asked of a bench, spoiled or not."""
+    replies = [bench.move(kind, up, 2) for kind in (1, 2) for up in (True, False)]
+    replies += [bench.save(name) for name in (7, 8)] + [bench.come_back(name) for name in (2, 4, 5, 8, 255)]
+    walked = bench.walk()
+    replies += [17] if walked is None else [0, *walked]
+    return "".join(f"{x} " for x in replies) + told_chain(bench)
+
+
+def bench_of_27(*spoiled):
+    """27, saved under 2; then 18 and 9, saved under 4; then numbers replaced."""
+    bench = Bench()
+    assert [bench.open([NUMBER[0, 3]]), bench.save(2), bench.move(1, False, 2), bench.save(4)] == [0] * 4
+    for at, x in spoiled:
+        bench.put(at, x)
+    return bench
+
+
+def spoiled_benches():
+    """One number replaced: a row, n, a name's. Then rows 0, 1, 2 and 40 of the present state, of a saved one and of one never saved: chains of 27,
+    sets of 27 that are none, sets of 28 and of 0, sets of 2^64 + 27 and of 27 modulo 2^64, rows full of ones.
+    """
+    ones = LIMIT - 1
+    numbers = [(20, 1), (20, ones), (143, 1), (266, 1), (369, 28), (369, 26), (369, 0), (369, ones)]
+    names = [(372, 0), (372, ones), (374, 256), (375, 1), (375, 2**63), (378, ones)]
+    yield from (bench_of_27(spoiled) for spoiled in numbers + names)
+    states = [(27, 0, 0, 0), (3, 8, 0, 0), (18, 0, 1, 0), (28, 0, 0, 0), (0, 0, 0, 0), (1, (LIMIT + 26) // 3, 0, 0), (2**62 + 27, 2**62, 0, 0)]
+    states += [(0, 0, 0, 27 * pow(3**40, -1, LIMIT) % LIMIT), (0, 0, 3, ones), (ones, ones, 0, 0), (ones,) * 4]
+    for state, rows in itertools.product((0, 5, 6), states):
+        yield bench_of_27(*((41 * state + b, x) for b, x in zip((0, 1, 2, 40), rows)))
+
+
+def flipped_line():
+    """27, saved under every name; then bit i modulo 64 of number i changed, for each row and n, and at last none."""
+    tally = Tally(bench_of_27())
+    tally.chains = 1
+    for at in [*range(370), 384]:
+        bench = tally.bench = Bench()
+        assert [bench.open([NUMBER[0, 3]]), *map(bench.save, range(8))] == [0] * 9
+        part = 1 if at % 41 == 3 else 0
+        bench.put(at, (27 if at == 369 else part) ^ 2 ** (at % 64))
+        tally.noted(bench.move(1, False, 2))
+    assert (tally.done, tally.refused) == (1, 370)
+    return tally.line()
+
+
+def other_benches():
+    """Those of 0, and those of 2^63 with this in another row."""
+    ones = LIMIT - 1
+    for spoiled in (378, ones), (375, 1), (0, 1), (369, 1), (41, 1):
+        bench = Bench()
+        bench.open([])
+        bench.put(*spoiled)
+        yield bench
+    for row in (0, 1, 2, 40):
+        bench = Bench()
+        bench.open([NUMBER[63, 0]])
+        bench.put(0, 0)
+        bench.put(row, 2**63)
+        yield bench
+
+
+@what
+def test_bench():
+    yield from record_tallies()
+    yield "refusals"
+    for bench in spoiled_benches():
+        yield f"{asked(bench)} {bench.digest()}"
+    yield flipped_line()
+    for bench in other_benches():
+        yield f"{asked(bench)} {bench.digest()}"
+    whole, changed = (378, LIMIT - 1), (0, 1)
+    for size, spoiled in (377, whole), (377, changed), (41, whole), (0, whole), (378, whole), (378, changed):
+        bench = bench_of_27(spoiled)
+        if size < 378:
+            yield "1 " * 15 + f"{bench.digest()}"
+        else:
+            yield f"{asked(bench)} {bench.open([NUMBER[0, 3]])} {bench.open([0, 1])} {bench.digest()}"
+    for size, spoiled in (70, whole), (64, whole), (63, whole), (0, whole), (70, changed), (63, changed):
+        bench = bench_of_27(spoiled)
+        told = bench.tell() if size >= 64 else None
+        places = [2**16 - 1] * 64 if told is None else (told[1] + [0] * 64)[:64]
+        reply = "1" if size < 64 else "17" if told is None else f"{told[0]} {len(told[1])}"
+        yield f"{reply} {functools.reduce(mixed, places, 0)} {bench.digest()}"
 
 
 def number_or_dash(a, b):

@@ -1,8 +1,9 @@
 /* Double-base chains from C and C++.
  *
  * A chain writes a number as a sum of parts 2^a * 3^b, each a proper multiple of the next. The functions count the chains of a
- * number, find its best chain, run a chain on a residue, read and write tree words, and reply to a line of hexadecimal. Each is
- * proved to answer and to leave behind exactly what its contract in crates/meltsjuk/src/lib.rt says, for every argument.
+ * number, find its best chain, run a chain on a residue, read and write tree words, move a chain on a bench, and reply to a line of
+ * hexadecimal. Each is proved to answer and to leave behind exactly what its contract in crates/meltsjuk/src/lib.rt says, for every
+ * argument.
  * `rt staticlib meltsjuk` writes the archive target/staticlib/libmeltsjuk.a, for x86-64 Linux:
  *
  *     cc -I bindings/c program.c target/staticlib/libmeltsjuk.a
@@ -19,12 +20,13 @@
  * with a stack of MELTSJUK_STACK bytes can make every call. The caller's own functions and signal handlers need more on top.
  *
  * Too little lent is refused first of all, and then nothing is written. On every other return the first MELTSJUK_SCRATCH numbers of
- * the scratch are zero and those after them are as they were. More may be lent than is asked for. meltsjuk_run and
- * meltsjuk_write_tree are lent no scratch.
+ * the scratch are zero and those after them are as they were. More may be lent than is asked for. meltsjuk_run, meltsjuk_write_tree
+ * and the functions for a bench are lent no scratch.
  */
 #ifndef MELTSJUK_H
 #define MELTSJUK_H
 
+#include <stdbool.h>
 #include <stddef.h>
 #include <stdint.h>
 
@@ -32,6 +34,8 @@
 #define MELTSJUK_PLACES 64       /* at least so many places are lent for part numbers; a chain has no more parts */
 #define MELTSJUK_TREE_PLACES 160 /* at least so many places are lent for the letters of a tree word; it has at most 157 */
 #define MELTSJUK_REPLY 514       /* at least so many bytes are lent for a reply */
+#define MELTSJUK_BENCH 378       /* a bench has at least so many numbers; they take 3 KB */
+#define MELTSJUK_NAMES 8         /* a bench has so many names: 0 to 7 */
 #define MELTSJUK_STACK 32768     /* a thread with so many bytes of stack can make any of the calls */
 
 /* The answers of the functions but meltsjuk_reply; at each function stands which of them it gives. meltsjuk_reply answers
@@ -46,6 +50,8 @@
 #define MELTSJUK_BAD_MODULUS 13  /* the modulus is 0 or above 2^63 */
 #define MELTSJUK_NO_RESIDUE 14   /* x is not below the modulus */
 #define MELTSJUK_NO_TREE_WORD 15 /* the letters are no tree word, or the chain is empty and has none */
+#define MELTSJUK_NO_MOVE 17      /* the bench holds a state that is no chain of its n, or the move is not allowed */
+#define MELTSJUK_NO_NAME 18      /* the name is above 7, or to come back to it nothing was saved under it */
 
 #ifdef __cplusplus
 extern "C" {
@@ -120,6 +126,66 @@ uint8_t meltsjuk_read_tree(const uint8_t *letters, size_t letters_length, uint64
  * Otherwise answers the first of these that holds, and the places and *k are as they were: MELTSJUK_LITTLE_LENT, MELTSJUK_NO_PART,
  * MELTSJUK_NO_CHAIN, MELTSJUK_LARGE_SUM, and MELTSJUK_NO_TREE_WORD for the empty chain. */
 uint8_t meltsjuk_write_tree(const uint16_t *numbers, size_t numbers_length, uint8_t *places, size_t places_length, uint64_t *k);
+
+/* A bench, which docs/BENCH.md explains, holds a chain of a number n to be moved by hand, and up to eight saved chains of n. The
+ * caller lends it as MELTSJUK_BENCH numbers:
+ *
+ *     0 to 40       the present chain by rows: bit a of number b is 1 where 2^a * 3^b is a part
+ *     41 to 368     the chains saved under the names 0 to 7, 41 numbers each, in the same way
+ *     369           n
+ *     370 to 377    for each name 0 if nothing was saved under it, else another number
+ *
+ * meltsjuk_open_bench writes all of them, and then the other five functions keep them. The library keeps nothing else, so a bench can
+ * be copied, stored and sent as its numbers. The five look first whether enough is lent (MELTSJUK_LITTLE_LENT), then whether the
+ * present chain and each saved one is a chain of n (MELTSJUK_NO_MOVE), and only then at the rest. Numbers 41 to 368 that are those
+ * of a name never saved may be anything. With any answer but MELTSJUK_SERVED the bench is as it was. Numbers after the first
+ * MELTSJUK_BENCH are always as they were. */
+
+/* Opens a bench on a chain, with no name saved.
+ *
+ * Lent: the chain's part numbers, largest part first, as meltsjuk_best gives them, and where there are none the length is 0 and the
+ * pointer is not null; the bench, MELTSJUK_BENCH numbers or more, which may hold anything.
+ * Answers MELTSJUK_SERVED, and the bench is open. Otherwise answers the first of these that holds, and the bench is as it was:
+ * MELTSJUK_LITTLE_LENT, MELTSJUK_NO_PART, MELTSJUK_NO_CHAIN, MELTSJUK_LARGE_SUM. */
+uint8_t meltsjuk_open_bench(const uint16_t *numbers, size_t numbers_length, uint64_t *bench, size_t bench_length);
+
+/* Moves the present chain, by the move of kind 1 or 2, up or down, at a row: the b of the upward move's 2^a * 3^b, for both
+ * directions. There is at most one such move.
+ *
+ * Lent: the bench, MELTSJUK_BENCH numbers or more.
+ * Answers MELTSJUK_SERVED, and the present chain is the one after the move; n and the names are as they were. Otherwise answers
+ * MELTSJUK_LITTLE_LENT or MELTSJUK_NO_MOVE, and the bench is as it was. A kind that is not 1 or 2 and a row above 39 have no move. */
+uint8_t meltsjuk_move(uint64_t *bench, size_t bench_length, uint8_t kind, bool up, uint8_t row);
+
+/* Saves the present chain under a name, over what was saved there before.
+ *
+ * Lent: the bench, MELTSJUK_BENCH numbers or more.
+ * Answers MELTSJUK_SERVED; the present chain and the other names are as they were. Otherwise answers the first of these that holds,
+ * and the bench is as it was: MELTSJUK_LITTLE_LENT, MELTSJUK_NO_MOVE, MELTSJUK_NO_NAME. */
+uint8_t meltsjuk_save(uint64_t *bench, size_t bench_length, uint8_t name);
+
+/* Comes back to the chain that was saved under a name: it is the present one.
+ *
+ * Lent: the bench, MELTSJUK_BENCH numbers or more.
+ * Answers MELTSJUK_SERVED; all eight names are as they were. Otherwise answers the first of these that holds, and the bench is as it
+ * was: MELTSJUK_LITTLE_LENT, MELTSJUK_NO_MOVE, MELTSJUK_NO_NAME. */
+uint8_t meltsjuk_come_back(uint64_t *bench, size_t bench_length, uint8_t name);
+
+/* Walks the present chain down to the binary one, by downward moves, always at the smallest part in the highest row.
+ *
+ * Lent: the bench, MELTSJUK_BENCH numbers or more; one number each for the number of moves and of parts.
+ * Answers MELTSJUK_SERVED with how many moves the walk has in *moves, never above 1,280, and how many parts the binary chain has in
+ * *k: as many as n has one bits. The present chain is the binary one, and all eight names are as they were.
+ * Answers MELTSJUK_LITTLE_LENT or MELTSJUK_NO_MOVE otherwise, and the bench and the two numbers are as they were. */
+uint8_t meltsjuk_walk(uint64_t *bench, size_t bench_length, uint64_t *moves, uint64_t *k);
+
+/* Tells the present chain.
+ *
+ * Lent: the bench, MELTSJUK_BENCH numbers or more; MELTSJUK_PLACES places or more; one number each for n and the number of parts.
+ * Answers MELTSJUK_SERVED with the two in *n and *k. The first *k places hold the chain's part numbers, largest part first, as
+ * meltsjuk_best gives them. Then come zeros up to MELTSJUK_PLACES, and later places are as they were.
+ * Answers MELTSJUK_LITTLE_LENT or MELTSJUK_NO_MOVE otherwise, and the places and the two numbers are as they were. */
+uint8_t meltsjuk_tell(const uint64_t *bench, size_t bench_length, uint16_t *places, size_t places_length, uint64_t *n, uint64_t *k);
 
 #ifdef __cplusplus
 }

@@ -11,7 +11,7 @@
  * Every scratch stands before a page that must not be touched either: a call that reads or writes past its end is stopped alike. A
  * scratch has MELTSJUK_SCRATCH numbers, one more, or 5,248. All bits are set before a call. After it the first MELTSJUK_SCRATCH
  * numbers must be zero and the others as they were. A scratch of one number less is refused and left as it was. The places for part
- * numbers and for letters stand before such a page too. */
+ * numbers and for letters, and the numbers of a bench, stand before such a page too. */
 #define _DEFAULT_SOURCE
 #define _POSIX_C_SOURCE 200809L
 #include "meltsjuk.h"
@@ -43,6 +43,7 @@ struct part {
 static struct scratch shorter, exact, longer, large;
 static uint16_t *places, *more_places; /* MELTSJUK_PLACES of them, and LATER more */
 static uint8_t *tree_places, *more_tree_places; /* MELTSJUK_TREE_PLACES of them, and LATER more */
+static uint64_t *short_bench, *bench, *more_bench; /* MELTSJUK_BENCH numbers less one, as many, and LATER more */
 static struct part parts_by_number[PARTS];
 static uint16_t numbers[255]; /* a line tells in one byte how many part numbers it has */
 static uint8_t letters[255]; /* or how many letters */
@@ -97,6 +98,9 @@ static void make_memory(void)
     more_places = fenced((MELTSJUK_PLACES + LATER) * sizeof(uint16_t));
     tree_places = fenced(MELTSJUK_TREE_PLACES);
     more_tree_places = fenced(MELTSJUK_TREE_PLACES + LATER);
+    short_bench = fenced((MELTSJUK_BENCH - 1) * sizeof(uint64_t));
+    bench = fenced(MELTSJUK_BENCH * sizeof(uint64_t));
+    more_bench = fenced((MELTSJUK_BENCH + LATER) * sizeof(uint64_t));
 }
 
 static int by_value(const void *x, const void *y)
@@ -423,6 +427,161 @@ static void *refused_runs(void *unused)
     return unused;
 }
 
+/* ---- the bench */
+
+/* Where the numbers of a bench stand: 41 for each state, n, and for each name whether it was saved. */
+#define ROWS 41
+#define STATE(name) (ROWS + ROWS * (name))
+#define N 369
+#define SAVED(name) (370 + (name))
+
+/* Whether the bench with so many numbers more tells this chain of n, and whether these later numbers have all bits set. */
+static int is_told(const uint64_t *b, size_t later, uint64_t n, const uint16_t *parts, size_t k)
+{
+    uint64_t told = 7, length = 7;
+
+    memset(more_places, 0xFF, (MELTSJUK_PLACES + LATER) * sizeof *more_places);
+    return meltsjuk_tell(b, MELTSJUK_BENCH + later, more_places, MELTSJUK_PLACES + LATER, &told, &length) == MELTSJUK_SERVED
+           && told == n && length == k && are_parts(more_places, parts, k, LATER)
+           && is_all(b + MELTSJUK_BENCH, later * sizeof *b, 0xFF);
+}
+
+/* A bench on 18 + 1, with so many numbers more: a move, a name saved, the walk, and back. */
+static void use_bench(uint64_t *b, size_t later)
+{
+    static const uint16_t chains[4][4] = {{9, 0}, {7, 4, 0}, {7, 3, 1, 0}, {8, 1, 0}}; /* 18 1, 12 6 1, 12 4 2 1, 16 2 1 */
+    const size_t length = MELTSJUK_BENCH + later;
+    uint64_t moves = 7, k = 7;
+
+    memset(b, 0xFF, length * sizeof *b);
+    must(meltsjuk_open_bench(chains[0], 2, b, length) == MELTSJUK_SERVED, "a bench on 18 + 1");
+    must(b[0] == 1 && b[1] == 0 && b[2] == 2 && b[N] == 19, "the rows and the number of a bench");
+    must(is_all(b + 3, (N - 3) * sizeof *b, 0) && is_all(b + SAVED(0), MELTSJUK_NAMES * sizeof *b, 0), "the rest of an open bench");
+    must(is_told(b, later, 19, chains[0], 2), "18 + 1 on a bench");
+    must(meltsjuk_move(b, length, 1, false, 1) == MELTSJUK_SERVED && is_told(b, later, 19, chains[1], 3), "18 becomes 12 + 6");
+    must(meltsjuk_save(b, length, 7) == MELTSJUK_SERVED && is_told(b, later, 19, chains[1], 3), "a chain saved");
+    must(meltsjuk_move(b, length, 1, true, 1) == MELTSJUK_SERVED && is_told(b, later, 19, chains[0], 2), "12 + 6 becomes 18");
+    must(meltsjuk_walk(b, length, &moves, &k) == MELTSJUK_SERVED && moves == 3 && k == 3, "the walk from 18 + 1");
+    must(is_told(b, later, 19, chains[3], 3), "the binary chain of 19");
+    must(meltsjuk_move(b, length, 2, true, 0) == MELTSJUK_SERVED && is_told(b, later, 19, chains[2], 4), "16 becomes 12 + 4");
+    must(meltsjuk_move(b, length, 2, false, 0) == MELTSJUK_SERVED && is_told(b, later, 19, chains[3], 3), "12 + 4 becomes 16");
+    must(meltsjuk_come_back(b, length, 7) == MELTSJUK_SERVED && is_told(b, later, 19, chains[1], 3), "a chain come back to");
+    must(meltsjuk_walk(b, length, &moves, &k) == MELTSJUK_SERVED && moves == 2 && k == 3, "the walk from 12 + 6 + 1");
+    must(meltsjuk_save(b, length, 7) == MELTSJUK_SERVED && meltsjuk_save(b, length, 0) == MELTSJUK_SERVED, "chains saved");
+    must(is_all(b + STATE(1), 6 * ROWS * sizeof *b, 0) && b[STATE(0)] == 19 && b[STATE(7)] == 19, "what names hold");
+}
+
+/* A bench on the empty chain, and one on 3^40, the longest walk from a chain of one part. */
+static void use_ends(void)
+{
+    const uint16_t power[1] = {1320}; /* 3^40 */
+    uint64_t moves = 7, k = 7;
+
+    must(meltsjuk_open_bench(power, 0, bench, MELTSJUK_BENCH) == MELTSJUK_SERVED && is_told(bench, 0, 0, power, 0),
+         "a bench on the empty chain");
+    must(meltsjuk_walk(bench, MELTSJUK_BENCH, &moves, &k) == MELTSJUK_SERVED && moves == 0 && k == 0, "the walk from no parts");
+    must(meltsjuk_move(bench, MELTSJUK_BENCH, 1, true, 0) == MELTSJUK_NO_MOVE, "a move of no parts");
+    must(meltsjuk_open_bench(power, 1, bench, MELTSJUK_BENCH) == MELTSJUK_SERVED, "a bench on 3^40");
+    must(bench[40] == 1 && bench[N] == UINT64_C(12157665459056928801), "the row and the number of 3^40");
+    must(meltsjuk_walk(bench, MELTSJUK_BENCH, &moves, &k) == MELTSJUK_SERVED && moves == 453 && k == 28, "the walk from 3^40");
+    must(bench[0] == bench[N] && is_all(bench + 1, (ROWS - 1) * sizeof *bench, 0), "the binary chain of 3^40");
+}
+
+static void *served_benches(void *unused)
+{
+    use_bench(bench, 0);
+    use_bench(more_bench, LATER);
+    use_ends();
+    return unused;
+}
+
+/* What each of the five calls answers on the bench as it stands. The bench, the places and the numbers must be as they were. */
+static void all_refuse(uint8_t refusal, const char *what)
+{
+    uint64_t was[MELTSJUK_BENCH], n = 7, moves = 7, k = 7;
+
+    memcpy(was, bench, sizeof was);
+    memset(places, 0xFF, MELTSJUK_PLACES * sizeof *places);
+    must(meltsjuk_move(bench, MELTSJUK_BENCH, 1, false, 1) == refusal, what);
+    must(meltsjuk_save(bench, MELTSJUK_BENCH, 8) == refusal, what);
+    must(meltsjuk_come_back(bench, MELTSJUK_BENCH, 8) == refusal, what);
+    must(meltsjuk_walk(bench, MELTSJUK_BENCH, &moves, &k) == refusal, what);
+    must(meltsjuk_tell(bench, MELTSJUK_BENCH, places, MELTSJUK_PLACES, &n, &k) == refusal, what);
+    must(memcmp(was, bench, sizeof was) == 0 && n == 7 && moves == 7 && k == 7, "a bench written although it was refused");
+    must(is_all(places, MELTSJUK_PLACES * sizeof *places, 0xFF), "places written although the bench was refused");
+}
+
+/* One number or place less than is asked for. */
+static void too_small_bench(void)
+{
+    const uint16_t parts[2] = {9, 0}; /* 18 + 1 */
+    uint64_t n = 7, moves = 7, k = 7;
+
+    memset(short_bench, 0xFF, (MELTSJUK_BENCH - 1) * sizeof *short_bench);
+    memset(places, 0xFF, MELTSJUK_PLACES * sizeof *places);
+    must(meltsjuk_open_bench(parts, 2, short_bench, MELTSJUK_BENCH - 1) == MELTSJUK_LITTLE_LENT
+             && meltsjuk_move(short_bench, MELTSJUK_BENCH - 1, 1, false, 1) == MELTSJUK_LITTLE_LENT
+             && meltsjuk_save(short_bench, MELTSJUK_BENCH - 1, 8) == MELTSJUK_LITTLE_LENT
+             && meltsjuk_come_back(short_bench, MELTSJUK_BENCH - 1, 8) == MELTSJUK_LITTLE_LENT
+             && meltsjuk_walk(short_bench, MELTSJUK_BENCH - 1, &moves, &k) == MELTSJUK_LITTLE_LENT
+             && meltsjuk_tell(short_bench, MELTSJUK_BENCH - 1, places, MELTSJUK_PLACES, &n, &k) == MELTSJUK_LITTLE_LENT
+             && meltsjuk_tell(bench, MELTSJUK_BENCH, places, MELTSJUK_PLACES - 1, &n, &k) == MELTSJUK_LITTLE_LENT,
+         "a bench or places of too little memory");
+    must(is_all(short_bench, (MELTSJUK_BENCH - 1) * sizeof *short_bench, 0xFF) && n == 7 && moves == 7 && k == 7
+             && is_all(places, MELTSJUK_PLACES * sizeof *places, 0xFF),
+         "memory written although too little is lent for a bench");
+}
+
+/* Each refusal of a bench, in the order in which the services look for them. */
+static void *refused_benches(void *unused)
+{
+    const uint16_t bad[4] = {1327, 1286, 1327, 1344}; /* 3 * 2^62, 3 * 2^61, 3 * 2^62, and no part's number */
+    const uint16_t parts[2] = {9, 0}; /* 18 + 1 */
+    uint64_t was[MELTSJUK_BENCH];
+
+    memset(bench, 0xFF, MELTSJUK_BENCH * sizeof *bench);
+    too_small_bench();
+    must(meltsjuk_open_bench(bad, 4, bench, MELTSJUK_BENCH) == MELTSJUK_NO_PART, "a bench on a part number 1344");
+    must(meltsjuk_open_bench(bad, 3, bench, MELTSJUK_BENCH) == MELTSJUK_NO_CHAIN, "a bench on parts that are no chain");
+    must(meltsjuk_open_bench(bad, 2, bench, MELTSJUK_BENCH) == MELTSJUK_LARGE_SUM, "a bench on parts with too large a sum");
+    must(is_all(bench, MELTSJUK_BENCH * sizeof *bench, 0xFF), "a bench written although it was not opened");
+    all_refuse(MELTSJUK_NO_MOVE, "a bench of ones");
+
+    must(meltsjuk_open_bench(parts, 2, bench, MELTSJUK_BENCH) == MELTSJUK_SERVED, "a bench on 18 + 1");
+    bench[STATE(3)] = 19; /* a name never saved may hold anything */
+    memcpy(was, bench, sizeof was);
+    must(meltsjuk_save(bench, MELTSJUK_BENCH, 8) == MELTSJUK_NO_NAME
+             && meltsjuk_save(bench, MELTSJUK_BENCH, 255) == MELTSJUK_NO_NAME
+             && meltsjuk_come_back(bench, MELTSJUK_BENCH, 8) == MELTSJUK_NO_NAME
+             && meltsjuk_come_back(bench, MELTSJUK_BENCH, 3) == MELTSJUK_NO_NAME,
+         "names that are not there");
+    must(meltsjuk_move(bench, MELTSJUK_BENCH, 2, false, 1) == MELTSJUK_NO_MOVE, "a move of the other kind");
+    must(meltsjuk_move(bench, MELTSJUK_BENCH, 1, true, 1) == MELTSJUK_NO_MOVE, "a move the other way");
+    must(meltsjuk_move(bench, MELTSJUK_BENCH, 1, false, 0) == MELTSJUK_NO_MOVE, "a move at another row");
+    must(meltsjuk_move(bench, MELTSJUK_BENCH, 0, false, 1) == MELTSJUK_NO_MOVE
+             && meltsjuk_move(bench, MELTSJUK_BENCH, 3, false, 1) == MELTSJUK_NO_MOVE,
+         "a move of no kind");
+    for (unsigned row = 39; row < 256; row++)
+        for (unsigned way = 0; way < 4; way++)
+            must(meltsjuk_move(bench, MELTSJUK_BENCH, (uint8_t)(1 + way / 2), way % 2, (uint8_t)row) == MELTSJUK_NO_MOVE,
+                 "a move at the highest row or above");
+    must(memcmp(was, bench, sizeof was) == 0, "a bench written although the call was refused");
+
+    bench[SAVED(3)] = 2; /* the saved chain is 19 in binary: now it counts, and it is one of 19 */
+    must(meltsjuk_come_back(bench, MELTSJUK_BENCH, 3) == MELTSJUK_SERVED && bench[0] == 19, "a name marked with 2");
+    bench[STATE(3)] = 18;
+    all_refuse(MELTSJUK_NO_MOVE, "a saved chain of another number");
+    bench[STATE(3)] = 16;
+    bench[STATE(3) + 1] = 1; /* 16 + 3: no chain */
+    all_refuse(MELTSJUK_NO_MOVE, "saved parts that are no chain");
+    bench[SAVED(3)] = 0;
+    bench[N] = 18;
+    all_refuse(MELTSJUK_NO_MOVE, "a bench whose n is another");
+    return unused;
+}
+
+/* ---- lines and calls */
+
 /* A line, and what the call for it answers. */
 struct request {
     const char *line;
@@ -652,6 +811,8 @@ int main(int argc, char **argv)
     with_each_scratch();
     on_small_stack(refused_runs, NULL);
     on_small_stack(refused_writings, NULL);
+    on_small_stack(served_benches, NULL);
+    on_small_stack(refused_benches, NULL);
     must(!ferror(stdin) && fflush(stdout) == 0, "reading or writing failed");
     return 0;
 }

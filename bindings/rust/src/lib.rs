@@ -2,9 +2,9 @@
 //!
 //! A chain writes a number as a sum of parts 2^a × 3^b, each a proper multiple of the next: 19 = 18 + 1. A [`Terminal`] counts the
 //! chains of a number, finds its best chain, reads tree words, and replies to lines of hexadecimal; [`run`] runs a chain on a
-//! residue, and [`write_tree`] writes a chain's tree word. The library behind them is proved to meet its contracts in
-//! crates/meltsjuk/src/lib.rt for every argument; this package lends it the memory that it asks for. For x86-64 Linux. A thread of
-//! Rust's usual size has stack enough; bindings/c/meltsjuk.h says how much a call needs.
+//! residue, and [`write_tree`] writes a chain's tree word. A [`Bench`] moves a chain by hand. The library behind them is proved to
+//! meet its contracts in crates/meltsjuk/src/lib.rt for every argument; this package lends it the memory that it asks for. For
+//! x86-64 Linux. A thread of Rust's usual size has stack enough; bindings/c/meltsjuk.h says how much a call needs.
 //!
 //! ```
 //! let mut terminal = meltsjuk::Terminal::new();
@@ -20,6 +20,7 @@ const SCRATCH: usize = 512;
 const PLACES: usize = 64;
 const TREE_PLACES: usize = 160;
 const REPLY: usize = 514;
+const BENCH: usize = 378;
 
 // What the archive defines: bindings/c/meltsjuk.h says what each is lent, leaves and answers.
 mod archive {
@@ -72,6 +73,25 @@ mod archive {
             numbers_length: usize,
             places: *mut u8,
             places_length: usize,
+            k: *mut u64,
+        ) -> u8;
+
+        pub fn meltsjuk_open_bench(numbers: *const u16, numbers_length: usize, bench: *mut u64, bench_length: usize) -> u8;
+
+        pub fn meltsjuk_move(bench: *mut u64, bench_length: usize, kind: u8, up: bool, row: u8) -> u8;
+
+        pub fn meltsjuk_save(bench: *mut u64, bench_length: usize, name: u8) -> u8;
+
+        pub fn meltsjuk_come_back(bench: *mut u64, bench_length: usize, name: u8) -> u8;
+
+        pub fn meltsjuk_walk(bench: *mut u64, bench_length: usize, moves: *mut u64, k: *mut u64) -> u8;
+
+        pub fn meltsjuk_tell(
+            bench: *const u64,
+            bench_length: usize,
+            places: *mut u16,
+            places_length: usize,
+            n: *mut u64,
             k: *mut u64,
         ) -> u8;
     }
@@ -132,8 +152,8 @@ pub struct Chain {
     pub parts: Vec<u16>,
 }
 
-/// Why a chain is not run, or a tree word not read or written. `refusal as u8` is its number. Lines have further refusals, which
-/// [`Terminal::reply`] gives as digits.
+/// Why a chain is not run, a tree word not read or written, or a bench not opened or changed. `refusal as u8` is its number. Lines
+/// have further refusals, which [`Terminal::reply`] gives as digits.
 #[derive(Clone, Copy, Debug, PartialEq, Eq)]
 pub enum Refusal {
     /// A part number is 1,344 or more, or there are more than 64 part numbers.
@@ -148,6 +168,10 @@ pub enum Refusal {
     NoResidue = 14,
     /// The letters are no tree word, or the chain is empty and has none.
     NoTreeWord = 15,
+    /// The move is not allowed, or the numbers of a bench hold a state that is no chain of its n.
+    NoMove = 17,
+    /// The name is above 7, or to come back to it nothing was saved under it.
+    NoName = 18,
 }
 
 impl Refusal {
@@ -160,6 +184,8 @@ impl Refusal {
             13 => Refusal::BadModulus,
             14 => Refusal::NoResidue,
             15 => Refusal::NoTreeWord,
+            17 => Refusal::NoMove,
+            18 => Refusal::NoName,
             _ => unreachable!("no other refusal is given where enough is lent"),
         }
     }
@@ -174,6 +200,8 @@ impl std::fmt::Display for Refusal {
             Refusal::BadModulus => "the modulus is 0 or above 2^63",
             Refusal::NoResidue => "x is not below the modulus",
             Refusal::NoTreeWord => "the letters are no tree word, or the chain is empty and has none",
+            Refusal::NoMove => "the move is not allowed, or the bench holds a state that is no chain of its n",
+            Refusal::NoName => "the name is above 7, or nothing was saved under it",
         })
     }
 }
@@ -227,6 +255,150 @@ pub fn write_tree(parts: &[u16]) -> Result<Vec<u8>, Refusal> {
         unsafe { archive::meltsjuk_write_tree(parts.as_ptr(), parts.len(), letters.as_mut_ptr(), letters.len(), &mut k) };
     match status {
         0 => Ok(letters[..k as usize].to_vec()),
+        _ => Err(Refusal::of(status)),
+    }
+}
+
+/// A move's kind; docs/BENCH.md shows both.
+#[derive(Clone, Copy, Debug, PartialEq, Eq)]
+pub enum Kind {
+    /// Upwards: the largest part of the row and its half become one part of the row above, as 2 + 1 = 3.
+    First = 1,
+    /// Upwards: the largest part of the row, which stands there without its half, becomes two, as 4 = 3 + 1; the parts between the
+    /// two go up a row.
+    Second = 2,
+}
+
+/// A move's direction: up is towards more factors 3, and down undoes up.
+#[derive(Clone, Copy, Debug, PartialEq, Eq)]
+pub enum Direction {
+    /// Towards more factors 3.
+    Up,
+    /// Towards fewer factors 3.
+    Down,
+}
+
+/// What a walk down to the binary chain tells.
+#[derive(Clone, Copy, Debug, PartialEq, Eq)]
+pub struct Walk {
+    /// How many moves it made: never more than 1,280.
+    pub moves: u64,
+    /// How many parts the binary chain has: the one bits of n.
+    pub parts: u64,
+}
+
+/// A bench: a chain of n to be moved by hand, and eight names, 0 to 7, to save chains of n under. After any calls it holds a chain of
+/// the n that it was opened on. After a refusal it is as it was.
+///
+/// ```
+/// use meltsjuk::{Bench, Direction, Kind, Refusal, Walk};
+///
+/// let mut bench = Bench::open(&[9, 0]).unwrap(); // 18 + 1
+/// assert_eq!(bench.move_chain(Kind::First, Direction::Down, 1), Ok(()));
+/// assert_eq!(bench.parts(), [7, 4, 0]); // 12 + 6 + 1
+/// assert_eq!(bench.save(5), Ok(()));
+/// assert_eq!(bench.walk(), Walk { moves: 2, parts: 3 });
+/// assert_eq!(bench.parts(), [8, 1, 0]); // 16 + 2 + 1
+/// assert_eq!(bench.come_back(5), Ok(()));
+/// assert_eq!(bench.parts(), [7, 4, 0]);
+/// assert_eq!(bench.move_chain(Kind::First, Direction::Up, 1), Ok(())); // 12 + 6 are 18 again
+/// assert_eq!((bench.n(), bench.parts()), (19, vec![9, 0]));
+/// assert_eq!(bench.move_chain(Kind::First, Direction::Up, 1), Err(Refusal::NoMove));
+/// assert_eq!(bench.come_back(0), Err(Refusal::NoName));
+/// ```
+#[derive(Clone, Debug, PartialEq, Eq)]
+pub struct Bench {
+    numbers: [u64; BENCH],
+}
+
+impl Bench {
+    /// A bench on the chain with these part numbers, largest part first, with no name saved. Refuses with [`Refusal::NoPart`],
+    /// [`Refusal::NoChain`] and [`Refusal::LargeSum`].
+    pub fn open(parts: &[u16]) -> Result<Self, Refusal> {
+        let mut numbers = [0; BENCH];
+        // Sound: the part numbers and the bench are of the lengths told, and the bench is a local.
+        let status = unsafe { archive::meltsjuk_open_bench(parts.as_ptr(), parts.len(), numbers.as_mut_ptr(), BENCH) };
+        match status {
+            0 => Ok(Bench { numbers }),
+            _ => Err(Refusal::of(status)),
+        }
+    }
+
+    /// The bench whose numbers these are, as [`Bench::numbers`] gives them. Refuses with [`Refusal::NoMove`] where the present state or
+    /// a saved one is no chain of its n.
+    ///
+    /// ```
+    /// use meltsjuk::{Bench, Refusal};
+    ///
+    /// let bench = Bench::open(&[9, 0]).unwrap();
+    /// let mut numbers = *bench.numbers();
+    /// assert_eq!(Bench::with(numbers), Ok(bench));
+    /// numbers[0] = 2; // 18 + 2 is no chain of 19
+    /// assert_eq!(Bench::with(numbers), Err(Refusal::NoMove));
+    /// ```
+    pub fn with(numbers: [u64; BENCH]) -> Result<Self, Refusal> {
+        let bench = Bench { numbers };
+        bench.tell().map(|_| bench)
+    }
+
+    /// The numbers of the bench, to store or send it: 41 for the present chain by rows, 41 for each name, n, and one for each name
+    /// that is 0 where nothing was saved under it. Bit a of number b in a chain is 1 where 2^a × 3^b is a part.
+    pub fn numbers(&self) -> &[u64; BENCH] {
+        &self.numbers
+    }
+
+    /// Makes the move of this kind and direction at a row: the b of the upward move's 2^a × 3^b, for both directions. There is at
+    /// most one; where there is none, refuses with [`Refusal::NoMove`].
+    pub fn move_chain(&mut self, kind: Kind, direction: Direction, row: u8) -> Result<(), Refusal> {
+        let up = direction == Direction::Up;
+        // Sound: the bench is of the length told and borrowed as `&mut`. So it is in the functions below.
+        done(unsafe { archive::meltsjuk_move(self.numbers.as_mut_ptr(), BENCH, kind as u8, up, row) })
+    }
+
+    /// Saves the present chain under a name, over what was saved there. Refuses with [`Refusal::NoName`] where the name is above 7.
+    pub fn save(&mut self, name: u8) -> Result<(), Refusal> {
+        done(unsafe { archive::meltsjuk_save(self.numbers.as_mut_ptr(), BENCH, name) })
+    }
+
+    /// Comes back to the chain saved under a name; all names stay as they are. Refuses with [`Refusal::NoName`] where the name is
+    /// above 7 or nothing was saved under it.
+    pub fn come_back(&mut self, name: u8) -> Result<(), Refusal> {
+        done(unsafe { archive::meltsjuk_come_back(self.numbers.as_mut_ptr(), BENCH, name) })
+    }
+
+    /// Walks down to the binary chain, always at the smallest part in the highest row; all names stay as they are.
+    pub fn walk(&mut self) -> Walk {
+        let (mut moves, mut parts) = (0, 0);
+        let status = unsafe { archive::meltsjuk_walk(self.numbers.as_mut_ptr(), BENCH, &mut moves, &mut parts) };
+        assert_eq!(status, 0, "a bench holds chains of its n");
+        Walk { moves, parts }
+    }
+
+    /// The number that the bench was opened on.
+    pub fn n(&self) -> u64 {
+        self.tell().expect("a bench holds chains of its n").0
+    }
+
+    /// The part numbers of the present chain, largest part first.
+    pub fn parts(&self) -> Vec<u16> {
+        self.tell().expect("a bench holds chains of its n").1
+    }
+
+    /// n and the part numbers of the present chain.
+    fn tell(&self) -> Result<(u64, Vec<u16>), Refusal> {
+        let mut places = [0; PLACES];
+        let (mut n, mut k) = (0, 0);
+        // Sound: the bench and the places are of the lengths told, and the places and the two numbers are locals.
+        let status =
+            unsafe { archive::meltsjuk_tell(self.numbers.as_ptr(), BENCH, places.as_mut_ptr(), PLACES, &mut n, &mut k) };
+        done(status).map(|()| (n, places[..k as usize].to_vec()))
+    }
+}
+
+/// An answer that is a status alone.
+fn done(status: u8) -> Result<(), Refusal> {
+    match status {
+        0 => Ok(()),
         _ => Err(Refusal::of(status)),
     }
 }

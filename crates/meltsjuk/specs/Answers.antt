@@ -2,8 +2,8 @@
 -- A refusal leaves those as they were. Document 01, 'What a refused line or call gets', and document 02 have the refusals' numbers;
 -- of all but the reply 0 says that the call was served.
 --
--- In this order: the reply to a line, the count, a chain that is found, the best chain, tree words, the run of a chain. Definitions
--- only.
+-- In this order: the reply to a line, the count, a chain that is found, the best chain, tree words, the run of a chain, the bench.
+-- Definitions only.
 use mathlib.Core.Bool.{Bool, true, false}
 use mathlib.Core.List.{List}
 use Prim.Native.Nat.{ℕ}
@@ -18,6 +18,11 @@ use Rattle.trees.specs.Answers.{ofTree, TreeWord, noTree, treeWord, recordTree,
 use Rattle.running.specs.declared.Ran.{Ran}
 use Rattle.running.specs.declared.Ran.the-variants as ran
 use Rattle.best.specs.Chosen.{bestOutcome}
+use Rattle.bench.specs.Benches as bench
+use Rattle.bench.specs.declared.Walked.{Walked}
+use Rattle.bench.specs.declared.Walked.the-variants as walked
+use Rattle.bench.specs.declared.Told.{Told}
+use Rattle.bench.specs.declared.Told.the-variants as told
 use Rattle.frames.specs.Replies.{replyOf}
 
 -- ---- the reply to a line
@@ -105,3 +110,36 @@ runStatus (ran.Refused r) = r
 unfoldable pub residueOr : Ran → ℕ → ℕ
 residueOr (ran.Residue m) x = m
 residueOr (ran.Refused r) x = x
+
+-- ---- the bench
+
+-- Opening, moving, saving and coming back: 0 where a bench is left.
+unfoldable pub benchStatus : bench.Outcome → ℕ
+benchStatus (bench.refused r) = r
+benchStatus (bench.leaves b) = 0
+
+unfoldable pub walkStatus : Walked → ℕ
+walkStatus (walked.Walk m k) = 0
+walkStatus (walked.Refused r) = r
+
+-- The number of moves, and of parts of the chain that the walk ends with, or x where it is refused.
+unfoldable pub movesOr : Walked → ℕ → ℕ
+movesOr (walked.Walk m k) x = m
+movesOr (walked.Refused r) x = x
+
+unfoldable pub walkedPartsOr : Walked → ℕ → ℕ
+walkedPartsOr (walked.Walk m k) x = k
+walkedPartsOr (walked.Refused r) x = x
+
+unfoldable pub tellStatus : Told → ℕ
+tellStatus (told.Chain n k) = 0
+tellStatus (told.Refused r) = r
+
+-- The bench's number, and the number of parts of its present chain, or x where it is refused.
+unfoldable pub toldNumberOr : Told → ℕ → ℕ
+toldNumberOr (told.Chain n k) x = n
+toldNumberOr (told.Refused r) x = x
+
+unfoldable pub toldPartsOr : Told → ℕ → ℕ
+toldPartsOr (told.Chain n k) x = k
+toldPartsOr (told.Refused r) x = x

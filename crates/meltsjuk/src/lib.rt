@@ -1,6 +1,9 @@
 // The services for C and Rust: `rt staticlib meltsjuk` writes the archive; the header and the Rust package are in bindings/. Each
 // function calls one service and turns its answer into a number, and numbers put where the caller asks. To C a slice is a pointer
 // and a length.
+use bench::Benched;
+use bench::Told;
+use bench::Walked;
 use best::Chosen;
 use best::Limits;
 use best::Prices;
@@ -16,11 +19,15 @@ ghost use Rattle.counting.specs.TableCount.{countedOf};
 ghost use Rattle.frames.specs.Replies.{outLeft};
 ghost use Rattle.trees.specs.Answers.{treeLeft};
 ghost use Rattle.running.specs.Ran.{ranOf};
+ghost use Rattle.bench.specs.Benches.{openOutcome, moveOutcome, saveOutcome, backOutcome, benchLeft};
+ghost use Rattle.bench.specs.Benches.{walkedOf, walkLeft, toldOf, placesLeft as toldLeft};
 ghost use Rattle.meltsjuk.specs.Answers.{digitsOrRefusal, countStatus, countOr};
 ghost use Rattle.meltsjuk.specs.Answers.{outcomeStatus, numberOr, positionOr, partsOr};
 ghost use Rattle.meltsjuk.specs.Answers.{limitsOf, pricesOf, bestAsked, priceOr};
 ghost use Rattle.meltsjuk.specs.Answers.{treeChainAsked, treeAsked, treeStatus, lettersOr};
 ghost use Rattle.meltsjuk.specs.Answers.{runStatus, residueOr};
+ghost use Rattle.meltsjuk.specs.Answers.{benchStatus, walkStatus, movesOr, walkedPartsOr};
+ghost use Rattle.meltsjuk.specs.Answers.{tellStatus, toldNumberOr, toldPartsOr};
 
 // Replying to one line, without its byte 10, as `frames::reply` does. Answers how many digits the reply in `out` has, two where the
 // line is refused; or 1, which is no length, where too little is lent, and nothing is touched.
@@ -191,5 +198,97 @@ pub extern "C" fn meltsjuk_write_tree(numbers: &[u16], places: &mut [u8], k: &mu
             0
         }
         Written::Refused(number) => number,
+    }
+}
+
+// Opens a bench on the chain whose part numbers are `numbers`, largest part first, as `bench::open_bench` does. Answers 0, and the
+// bench holds the chain with no name saved; or 1, 8, 9 or 10, and the bench is as it was.
+#[no_mangle]
+pub extern "C" fn meltsjuk_open_bench(numbers: &[u16], bench: &mut [u64]) -> u8
+    ensures answer { λ r. ⌜ r ≡ benchStatus (openOutcome (now (numbers .entry)) (now (bench .entry))) ⌝ }
+    ensures bench { λ _. ⌜ now (bench .exit)
+        ≡ benchLeft (openOutcome (now (numbers .entry)) (now (bench .entry))) (now (bench .entry)) ⌝ }
+{
+    match bench::open_bench(numbers, bench) {
+        Benched::Done => 0,
+        Benched::Refused(number) => number,
+    }
+}
+
+// A move of the present chain, of kind 1 or 2, up or down, at a row, as `bench::move_chain` makes it. Answers 0; or 1 or 17, and
+// the bench is as it was.
+#[no_mangle]
+pub extern "C" fn meltsjuk_move(bench: &mut [u64], kind: u8, up: bool, row: u8) -> u8
+    ensures answer { λ r. ⌜ r ≡ benchStatus (moveOutcome kind up row (now (bench .entry))) ⌝ }
+    ensures bench { λ _. ⌜ now (bench .exit) ≡ benchLeft (moveOutcome kind up row (now (bench .entry))) (now (bench .entry)) ⌝ }
+{
+    match bench::move_chain(bench, kind, up, row) {
+        Benched::Done => 0,
+        Benched::Refused(number) => number,
+    }
+}
+
+// Saves the present chain under a name, as `bench::save_chain` does. Answers 0; or 1, 17 or 18, and the bench is as it was.
+#[no_mangle]
+pub extern "C" fn meltsjuk_save(bench: &mut [u64], name: u8) -> u8
+    ensures answer { λ r. ⌜ r ≡ benchStatus (saveOutcome name (now (bench .entry))) ⌝ }
+    ensures bench { λ _. ⌜ now (bench .exit) ≡ benchLeft (saveOutcome name (now (bench .entry))) (now (bench .entry)) ⌝ }
+{
+    match bench::save_chain(bench, name) {
+        Benched::Done => 0,
+        Benched::Refused(number) => number,
+    }
+}
+
+// Comes back to the chain saved under a name, as `bench::come_back` does. Answers 0; or 1, 17 or 18, and the bench is as it was.
+#[no_mangle]
+pub extern "C" fn meltsjuk_come_back(bench: &mut [u64], name: u8) -> u8
+    ensures answer { λ r. ⌜ r ≡ benchStatus (backOutcome name (now (bench .entry))) ⌝ }
+    ensures bench { λ _. ⌜ now (bench .exit) ≡ benchLeft (backOutcome name (now (bench .entry))) (now (bench .entry)) ⌝ }
+{
+    match bench::come_back(bench, name) {
+        Benched::Done => 0,
+        Benched::Refused(number) => number,
+    }
+}
+
+// Walks the present chain down to the binary one, as `bench::walk_chain` does. Answers 0 with the number of moves and the number of
+// parts of the binary chain put in `moves` and `k`; or 1 or 17, and the bench and the two are as they were.
+#[no_mangle]
+pub extern "C" fn meltsjuk_walk(bench: &mut [u64], moves: &mut u64, k: &mut u64) -> u8
+    ensures answer { λ r. ⌜ r ≡ walkStatus (walkedOf (now (bench .entry))) ⌝ }
+    ensures moves { λ _. ⌜ now (moves .exit) ≡ movesOr (walkedOf (now (bench .entry))) (now (moves .entry)) ⌝ }
+    ensures k { λ _. ⌜ now (k .exit) ≡ walkedPartsOr (walkedOf (now (bench .entry))) (now (k .entry)) ⌝ }
+    ensures bench { λ _. ⌜ now (bench .exit) ≡ walkLeft (now (bench .entry)) ⌝ }
+{
+    match bench::walk_chain(bench) {
+        Walked::Walk {
+            moves: made,
+            k: parts,
+        } => {
+            *moves = made;
+            *k = parts;
+            0
+        }
+        Walked::Refused(number) => number,
+    }
+}
+
+// The present chain, as `bench::tell_chain` tells it, its part numbers in the places. Answers 0 with the bench's number and the
+// number of parts put in `n` and `k`; or 1 or 17, and the places and the two are as they were.
+#[no_mangle]
+pub extern "C" fn meltsjuk_tell(bench: &[u64], places: &mut [u16], n: &mut u64, k: &mut u64) -> u8
+    ensures answer { λ r. ⌜ r ≡ tellStatus (toldOf (now (bench .entry)) (now (places .entry))) ⌝ }
+    ensures n { λ _. ⌜ now (n .exit) ≡ toldNumberOr (toldOf (now (bench .entry)) (now (places .entry))) (now (n .entry)) ⌝ }
+    ensures k { λ _. ⌜ now (k .exit) ≡ toldPartsOr (toldOf (now (bench .entry)) (now (places .entry))) (now (k .entry)) ⌝ }
+    ensures places { λ _. ⌜ now (places .exit) ≡ toldLeft (now (bench .entry)) (now (places .entry)) ⌝ }
+{
+    match bench::tell_chain(bench, places) {
+        Told::Chain { n: held, k: parts } => {
+            *n = held;
+            *k = parts;
+            0
+        }
+        Told::Refused(number) => number,
     }
 }

@@ -1,0 +1,11 @@
+pub mod Sound
+pub mod Benches
+pub mod BenchLaws
+pub mod StateLaws
+pub mod ChainTest
+pub mod Kept
+pub mod Sequences
+pub mod RowLaws
+pub mod MovedRows
+pub mod Laying
+pub mod Telling

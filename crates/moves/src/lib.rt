@@ -1,0 +1,1 @@
+// Moves of chains: theory only.
