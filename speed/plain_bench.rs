@@ -1,4 +1,4 @@
-//! The bench of docs/BENCH.md in plain Rust, as one first writes it, twice: on rows of bits and on a list of parts. Each service first
+//! The bench of docs/BENCH.md in straightforward Rust, twice: on rows of bits and on a list of parts. Each service first
 //! looks whether the present and each saved state is a chain of n. For speed/bench.
 
 /// A refusal's number: document 02's.

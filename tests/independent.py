@@ -29,7 +29,7 @@ Not shared with the crates:
 - a and b worked out of a part's number: here the part is looked up in the sorted list of points (TABLE), which holds them;
 - moves and walks by arithmetic on rows as 64-bit numbers: here a chain is a set of points, an upward move is 003's words on this set, a
   downward move is found among the sets that an upward move may come from, each tried with the upward move, and a walk goes part by part;
-- the test that a state is a chain of n, by remainders and a sum from the highest row down that stays below n: here values of any size.
+- the test that a state is a chain of n, by bits of rows and a sum from the highest row down that stays below n: here values of any size.
 
 Shared with the crates:
 - the definitions of documents 01 and 02 and of 003, T-05's six lines among them, and the order of the refusals;

@@ -34,7 +34,7 @@
 #define MELTSJUK_PLACES 64       /* at least so many places are lent for part numbers; a chain has no more parts */
 #define MELTSJUK_TREE_PLACES 160 /* at least so many places are lent for the letters of a tree word; it has at most 157 */
 #define MELTSJUK_REPLY 514       /* at least so many bytes are lent for a reply */
-#define MELTSJUK_BENCH 378       /* a bench has at least so many numbers; they take 3 KB */
+#define MELTSJUK_BENCH 378       /* at least so many numbers are lent for a bench; they take 3 KB */
 #define MELTSJUK_NAMES 8         /* a bench has so many names: 0 to 7 */
 #define MELTSJUK_STACK 32768     /* a thread with so many bytes of stack can make any of the calls */
 
@@ -51,7 +51,7 @@
 #define MELTSJUK_NO_RESIDUE 14   /* x is not below the modulus */
 #define MELTSJUK_NO_TREE_WORD 15 /* the letters are no tree word, or the chain is empty and has none */
 #define MELTSJUK_NO_MOVE 17      /* the bench holds a state that is no chain of its n, or the move is not allowed */
-#define MELTSJUK_NO_NAME 18      /* the name is above 7, or to come back to it nothing was saved under it */
+#define MELTSJUK_NO_NAME 18      /* the name is above 7, or, in coming back, nothing was saved under it */
 
 #ifdef __cplusplus
 extern "C" {

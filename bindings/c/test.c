@@ -532,12 +532,10 @@ static void too_small_bench(void)
          "memory written although too little is lent for a bench");
 }
 
-/* Each refusal of a bench, in the order in which the services look for them. */
-static void *refused_benches(void *unused)
+/* Benches that are too small, that are not opened because the record is bad, or that were never opened. */
+static void *unopened_benches(void *unused)
 {
     const uint16_t bad[4] = {1327, 1286, 1327, 1344}; /* 3 * 2^62, 3 * 2^61, 3 * 2^62, and no part's number */
-    const uint16_t parts[2] = {9, 0}; /* 18 + 1 */
-    uint64_t was[MELTSJUK_BENCH];
 
     memset(bench, 0xFF, MELTSJUK_BENCH * sizeof *bench);
     too_small_bench();
@@ -546,6 +544,14 @@ static void *refused_benches(void *unused)
     must(meltsjuk_open_bench(bad, 2, bench, MELTSJUK_BENCH) == MELTSJUK_LARGE_SUM, "a bench on parts with too large a sum");
     must(is_all(bench, MELTSJUK_BENCH * sizeof *bench, 0xFF), "a bench written although it was not opened");
     all_refuse(MELTSJUK_NO_MOVE, "a bench of ones");
+    return unused;
+}
+
+/* A bench on 18 + 1, which stays open for the next: moves and names that are refused. */
+static void *refused_calls(void *unused)
+{
+    const uint16_t parts[2] = {9, 0}; /* 18 + 1 */
+    uint64_t was[MELTSJUK_BENCH];
 
     must(meltsjuk_open_bench(parts, 2, bench, MELTSJUK_BENCH) == MELTSJUK_SERVED, "a bench on 18 + 1");
     bench[STATE(3)] = 19; /* a name never saved may hold anything */
@@ -566,7 +572,12 @@ static void *refused_benches(void *unused)
             must(meltsjuk_move(bench, MELTSJUK_BENCH, (uint8_t)(1 + way / 2), way % 2, (uint8_t)row) == MELTSJUK_NO_MOVE,
                  "a move at the highest row or above");
     must(memcmp(was, bench, sizeof was) == 0, "a bench written although the call was refused");
+    return unused;
+}
 
+/* The same bench, spoiled. */
+static void *spoiled_benches(void *unused)
+{
     bench[SAVED(3)] = 2; /* the saved chain is 19 in binary: now it counts, and it is one of 19 */
     must(meltsjuk_come_back(bench, MELTSJUK_BENCH, 3) == MELTSJUK_SERVED && bench[0] == 19, "a name marked with 2");
     bench[STATE(3)] = 18;
@@ -812,7 +823,9 @@ int main(int argc, char **argv)
     on_small_stack(refused_runs, NULL);
     on_small_stack(refused_writings, NULL);
     on_small_stack(served_benches, NULL);
-    on_small_stack(refused_benches, NULL);
+    on_small_stack(unopened_benches, NULL);
+    on_small_stack(refused_calls, NULL);
+    on_small_stack(spoiled_benches, NULL);
     must(!ferror(stdin) && fflush(stdout) == 0, "reading or writing failed");
     return 0;
 }

@@ -170,7 +170,7 @@ pub enum Refusal {
     NoTreeWord = 15,
     /// The move is not allowed, or the numbers of a bench hold a state that is no chain of its n.
     NoMove = 17,
-    /// The name is above 7, or to come back to it nothing was saved under it.
+    /// The name is above 7, or, in coming back, nothing was saved under it.
     NoName = 18,
 }
 
@@ -264,8 +264,8 @@ pub fn write_tree(parts: &[u16]) -> Result<Vec<u8>, Refusal> {
 pub enum Kind {
     /// Upwards: the largest part of the row and its half become one part of the row above, as 2 + 1 = 3.
     First = 1,
-    /// Upwards: the largest part of the row, which stands there without its half, becomes two, as 4 = 3 + 1; the parts between the
-    /// two go up a row.
+    /// Upwards: the largest part of the row, which stands there without its half, becomes two, as 4 = 3 + 1. The two fill the gap
+    /// below it and the place above the gap; the parts between the largest part and the gap go up a row.
     Second = 2,
 }
 

@@ -29,18 +29,28 @@ use Rattle.bench.specs.declared.Benched.the-variants as benched
 use Rattle.bench.specs.declared.Walked.the-variants as walked
 use Rattle.bench.specs.declared.Told.the-variants as told
 use Rattle.bench.specs.Telling.{Tellable, ToldRows}
-use Rattle.bench.specs.Sound.{numberIn, stateAt, savedIn, Sound, sound?}
-use Rattle.bench.specs.Benches.{benchSize, withState, withSaved, decided, onBench, Outcome, refused, leaves, answerOf, benchLeft, openOutcome, openedAs, moveOutcome, saveOutcome, backOutcome, walkedOf, walkLeft, walkOf, toldOf, placesLeft}
+use Rattle.bench.specs.Sound.{numberIn, stateAt, savedIn, Sound}
+use Rattle.bench.specs.Judging.{sound?}
+use Rattle.bench.specs.Benches.{benchSize, withState, withSaved, decided, onBench, Outcome, refused, leaves, answerOf}
+use Rattle.bench.specs.Benches.{benchLeft, openOutcome, openedAs, moveOutcome, saveOutcome, backOutcome, walkedOf, walkLeft}
+use Rattle.bench.specs.Benches.{walkOf, toldOf, placesLeft}
 
 -- ---- what every service looks at first
 
 -- Fewer numbers than a bench has.
-pub on-little : {A : Type 0} (refuse : ℕ → A) (bench : List ℕ) (f : Sound bench → A) → length bench < 378 → onBench refuse bench f ≡ refuse 1
+pub on-little :
+    {A : Type 0} (refuse : ℕ → A) (bench : List ℕ) (f : Sound bench → A)
+    → length bench < 378
+    → onBench refuse bench f ≡ refuse 1
 unfolding onBench
 on-little refuse bench f h = rw (lt-ltb (length bench) benchSize h)
 
 -- A bench that is not sound.
-pub on-lost : {A : Type 0} (refuse : ℕ → A) (bench : List ℕ) (f : Sound bench → A) → 378 ≤ length bench → (Sound bench → ⊥) → onBench refuse bench f ≡ refuse 17
+pub on-lost :
+    {A : Type 0} (refuse : ℕ → A) (bench : List ℕ) (f : Sound bench → A)
+    → 378 ≤ length bench
+    → (Sound bench → ⊥)
+    → onBench refuse bench f ≡ refuse 17
 unfolding onBench decided
 on-lost {A} refuse bench f h k = rw (le-ltb (length bench) benchSize h) (go (sound? bench))
   where
@@ -65,7 +75,11 @@ pub on-sound :
 on-sound refuse bench f x h k g = on-each (λ y. y ≡ x) refuse bench f h k g
 
 -- What holds in both cases of a decision.
-pub decided-each : {A B : Type 0} (P : B → Type 0) (d : Dec A) (f : A → B) (otherwise : B) → ((a : A) → P (f a)) → P otherwise → P (decided d f otherwise)
+pub decided-each :
+    {A B : Type 0} (P : B → Type 0) (d : Dec A) (f : A → B) (otherwise : B)
+    → ((a : A) → P (f a))
+    → P otherwise
+    → P (decided d f otherwise)
 unfolding decided
 decided-each P (yes a) f otherwise g p = g a
 decided-each P (no a) f otherwise g p = p
@@ -76,7 +90,11 @@ pub open-little : (numbers entry : List ℕ) → length entry < 378 → openOutc
 unfolding openOutcome
 open-little numbers entry h = rw (lt-ltb (length entry) benchSize h)
 
-pub open-judged : (numbers entry : List ℕ) (j : Judged) → 378 ≤ length entry → judgedOf numbers ≡ j → openOutcome numbers entry ≡ openedAs numbers entry j
+pub open-judged :
+    (numbers entry : List ℕ) (j : Judged)
+    → 378 ≤ length entry
+    → judgedOf numbers ≡ j
+    → openOutcome numbers entry ≡ openedAs numbers entry j
 unfolding openOutcome
 open-judged numbers entry j h e = rw (le-ltb (length entry) benchSize h, e)
 
@@ -87,7 +105,7 @@ pub sound-held : (bench : List ℕ) → Sound bench → Held (stateAt 0 bench)
 sound-held bench s = rw (s .present .rows) (chain-held (numberIn bench) (s .present .chain) (s .fits) (s .present .of-n) .0)
 
 -- A move of the present chain is one of its state.
-row-of : (kind row : ℕ) (up : Bool) (bench : List ℕ) (s : Sound bench) (d : List Part)
+pub row-of : (kind row : ℕ) (up : Bool) (bench : List ℕ) (s : Sound bench) (d : List Part)
     → Move kind up row (s .present .chain) d → RowMove kind up row (stateAt 0 bench) (rowsOf 41 d)
 row-of kind row up bench s d m =
     let n = numberIn bench in
@@ -103,7 +121,11 @@ module _ (kind row : ℕ) (up : Bool) (bench : List ℕ) (h : 378 ≤ length ben
   unfolding moveOutcome
   move-lost k = on-lost refused bench _ h k
 
-  pub move-done : Sound bench → (R : Rows) → RowMove kind up row (stateAt 0 bench) R → moveOutcome kind up row bench ≡ leaves (withState 0 R bench)
+  pub move-done :
+      Sound bench
+      → (R : Rows)
+      → RowMove kind up row (stateAt 0 bench) R
+      → moveOutcome kind up row bench ≡ leaves (withState 0 R bench)
   unfolding moveOutcome decided
   move-done k R w = on-sound refused bench _ (leaves (withState 0 R bench)) h k each
     where
@@ -130,7 +152,10 @@ module _ (kind row : ℕ) (up : Bool) (bench : List ℕ) (h : 378 ≤ length ben
               ap (λ (x : Rows). leaves (withState 0 x bench)) q
           go (no g) = absurd (g (f .after, f .move))
 
-  pub move-stuck : Sound bench → ((R : Rows) → RowMove kind up row (stateAt 0 bench) R → ⊥) → moveOutcome kind up row bench ≡ refused 17
+  pub move-stuck :
+      Sound bench
+      → ((R : Rows) → RowMove kind up row (stateAt 0 bench) R → ⊥)
+      → moveOutcome kind up row bench ≡ refused 17
   unfolding moveOutcome decided
   move-stuck k g = on-sound refused bench _ (refused 17) h k each
     where
@@ -165,13 +190,19 @@ module _ (name : ℕ) (bench : List ℕ) where
   back-lost h k = on-lost refused bench _ h k
 
 -- The states that the code copies.
-pub saved-as : (name : ℕ) (entry l : List ℕ) → l ≡ withState (name + 1) (stateAt 0 entry) entry → set l (370 + name) 1 ≡ withSaved name entry
+pub saved-as :
+    (name : ℕ) (entry l : List ℕ)
+    → l ≡ withState (name + 1) (stateAt 0 entry) entry
+    → set l (370 + name) 1 ≡ withSaved name entry
 unfolding withSaved
 saved-as name entry l e =
     let q : name + 1 ≡ suc name = omega arith in
     ap (λ (t : List ℕ). set t (370 + name) 1) (e ∙ ap (λ (j : ℕ). withState j (stateAt 0 entry) entry) q)
 
-pub back-as : (name : ℕ) (entry l : List ℕ) → l ≡ withState 0 (stateAt (name + 1) entry) entry → l ≡ withState 0 (stateAt (suc name) entry) entry
+pub back-as :
+    (name : ℕ) (entry l : List ℕ)
+    → l ≡ withState 0 (stateAt (name + 1) entry) entry
+    → l ≡ withState 0 (stateAt (suc name) entry) entry
 back-as name entry l e = let q : name + 1 ≡ suc name = omega arith in e ∙ ap (λ (j : ℕ). withState 0 (stateAt j entry) entry) q
 
 module _ (name : ℕ) (bench : List ℕ) (h : 378 ≤ length bench) (k : Sound bench) where
@@ -191,7 +222,10 @@ module _ (name : ℕ) (bench : List ℕ) (h : 378 ≤ length bench) (k : Sound b
   unfolding backOutcome
   back-never l e = on-sound refused bench _ (refused 18) h k (λ s. rw (le-ltb 7 name l, eq-eqb (savedIn name bench) 0 e))
 
-  pub back-done : name ≤ 7 → (savedIn name bench ≡ 0 → ⊥) → backOutcome name bench ≡ leaves (withState 0 (stateAt (suc name) bench) bench)
+  pub back-done :
+      name ≤ 7
+      → (savedIn name bench ≡ 0 → ⊥)
+      → backOutcome name bench ≡ leaves (withState 0 (stateAt (suc name) bench) bench)
   unfolding backOutcome
   back-done l e =
       on-sound refused bench _ (leaves (withState 0 (stateAt (suc name) bench) bench)) h k
@@ -201,14 +235,17 @@ module _ (name : ℕ) (bench : List ℕ) (h : 378 ≤ length bench) (k : Sound b
 
 module _ (bench : List ℕ) (h : 378 ≤ length bench) (k : Sound bench) (D : Rows) (j : ℕ) (w : WalkRows (stateAt 0 bench) j D) where
   -- The walk of the rows is that of the chain.
-  same-walk : (s : Sound bench) → (walkOf bench s .moves ≡ j) × (rowsOf 41 (walkOf bench s .last) ≡ D) × (length (walkOf bench s .last) ≡ ones (numberIn bench))
+  same-walk :
+      (s : Sound bench)
+      → (walkOf bench s .moves ≡ j) × (rowsOf 41 (walkOf bench s .last) ≡ D) × (length (walkOf bench s .last) ≡ ones (numberIn bench))
   unfolding walkOf
   same-walk s =
       let n = numberIn bench in
       let c = s .present .chain in
       let t = the-walk n (s .fits) c (s .present .of-n) in
       let w′ : WalkRows (rowsOf 41 c) j D = rw (s .present .rows) at w in
-      let r = walk-one (chain-held n c (s .fits) (s .present .of-n) .0 .fits) (walk-rows n (s .fits) (s .present .of-n) (t .walk)) w′ in
+      let r =
+      walk-one (chain-held n c (s .fits) (s .present .of-n) .0 .fits) (walk-rows n (s .fits) (s .present .of-n) (t .walk)) w′ in
       (r .0, r .1, walk-ones n (s .fits) c (t .last) (t .moves) (s .present .of-n) (t .walk))
 
   pub walk-told : walkedOf bench ≡ walked.Walk j (ones (numberIn bench))
@@ -230,17 +267,28 @@ pub walk-little : (bench : List ℕ) → length bench < 378 → (walked.Refused 
 unfolding walkedOf walkLeft
 walk-little bench h = (sym (on-little walked.Refused bench _ h), sym (on-little (λ r. bench) bench _ h))
 
-pub walk-lost : (bench : List ℕ) → 378 ≤ length bench → (Sound bench → ⊥) → (walked.Refused 17 ≡ walkedOf bench) × (bench ≡ walkLeft bench)
+pub walk-lost :
+    (bench : List ℕ)
+    → 378 ≤ length bench
+    → (Sound bench → ⊥)
+    → (walked.Refused 17 ≡ walkedOf bench) × (bench ≡ walkLeft bench)
 unfolding walkedOf walkLeft
 walk-lost bench h k = (sym (on-lost walked.Refused bench _ h k), sym (on-lost (λ r. bench) bench _ h k))
 
 -- ---- what is answered and left, by the outcome
 
-pub told-refused : (o : Outcome) (r : ℕ) (entry : List ℕ) → o ≡ refused r → (benched.Refused r ≡ answerOf o) × (entry ≡ benchLeft o entry)
+pub told-refused :
+    (o : Outcome) (r : ℕ) (entry : List ℕ)
+    → o ≡ refused r
+    → (benched.Refused r ≡ answerOf o) × (entry ≡ benchLeft o entry)
 unfolding answerOf benchLeft
 told-refused o r entry e = rw e (refl, refl)
 
-pub told-left : (o : Outcome) (l entry exit : List ℕ) → o ≡ leaves l → exit ≡ l → (benched.Done ≡ answerOf o) × (exit ≡ benchLeft o entry)
+pub told-left :
+    (o : Outcome) (l entry exit : List ℕ)
+    → o ≡ leaves l
+    → exit ≡ l
+    → (benched.Done ≡ answerOf o) × (exit ≡ benchLeft o entry)
 unfolding answerOf benchLeft
 told-left o l entry exit e k = rw e (refl, k)
 
@@ -253,7 +301,12 @@ filled-over places xs h = ap (λ (t : List ℕ). xs ++ (zeros (64 - length xs) +
 
 module _ (bench places : List ℕ) where
   -- What `tell_rows` asks.
-  pub tellable : (ys : List ℕ) → 64 ≤ length places → ys ≡ zeros (length (midOf 0 64 places)) → Sound bench → Tellable (stateAt 0 bench) (putMid 0 64 places ys)
+  pub tellable :
+      (ys : List ℕ)
+      → 64 ≤ length places
+      → ys ≡ zeros (length (midOf 0 64 places))
+      → Sound bench
+      → Tellable (stateAt 0 bench) (putMid 0 64 places ys)
   unfolding filled
   tellable ys h z s =
       let e = cleared 64 places places ys h refl z in
@@ -272,11 +325,18 @@ module _ (bench places : List ℕ) where
   unfolding toldOf placesLeft
   tell-few h = rw (lt-ltb (length places) 64 h) (refl, refl)
 
-  pub tell-little : 64 ≤ length places → length bench < 378 → (told.Refused 1 ≡ toldOf bench places) × (places ≡ placesLeft bench places)
+  pub tell-little :
+      64 ≤ length places
+      → length bench < 378
+      → (told.Refused 1 ≡ toldOf bench places) × (places ≡ placesLeft bench places)
   unfolding toldOf placesLeft
   tell-little h k = rw (le-ltb (length places) 64 h) (sym (on-little told.Refused bench _ k), sym (on-little (λ r. places) bench _ k))
 
-  pub tell-lost : 64 ≤ length places → 378 ≤ length bench → (Sound bench → ⊥) → (told.Refused 17 ≡ toldOf bench places) × (places ≡ placesLeft bench places)
+  pub tell-lost :
+      64 ≤ length places
+      → 378 ≤ length bench
+      → (Sound bench → ⊥)
+      → (told.Refused 17 ≡ toldOf bench places) × (places ≡ placesLeft bench places)
   unfolding toldOf placesLeft
   tell-lost h k s = rw (le-ltb (length places) 64 h) (sym (on-lost told.Refused bench _ k s), sym (on-lost (λ r. places) bench _ k s))
 
@@ -290,7 +350,9 @@ module _ (bench places : List ℕ) where
   tell-done h l s k zeroed exit z f =
       rw (le-ltb (length places) 64 h) (
         sym (on-sound told.Refused bench _ (told.Chain (numberIn bench) k) l s (λ t. ap (told.Chain (numberIn bench)) (sym (at t .count)))),
-        sym (on-sound (λ r. places) bench _ exit l s (λ t. sym (at t .numbers ∙ ap (filled 64 _) z ∙ filled-over places (map partNumber (t .present .chain)) (few t)))),
+        sym
+            (on-sound (λ r. places) bench _ exit l s
+            (λ t. sym (at t .numbers ∙ ap (filled 64 _) z ∙ filled-over places (map partNumber (t .present .chain)) (few t)))),
       )
     where
       at : (t : Sound bench) → ToldRows (t .present .chain) k zeroed exit

@@ -1,6 +1,7 @@
 -- A bench for moving chains, in the numbers that a caller lends: document 02, T-08.
--- In this order: where things are in a bench; a sound bench; what every service looks at first; what the services answer and leave.
--- Definitions only. What holds over any sequence of calls is in Sequences.
+-- In this order: a bench that changes; what every service looks at first; opening, moving, saving and coming back; walking; telling.
+-- Definitions only. Where things are in a bench, and when it is sound, is in Sound. What a call does to the present chain is in
+-- Promises, and what holds after any calls in Sequences.
 --
 -- Three decisions come from theory, and their types say all that matters: `sound?` says whether a bench is sound, `movable` whether
 -- there is a move and to which chain it leads, `the-walk` gives the walk of a chain.
@@ -19,7 +20,8 @@ use Rattle.moves.specs.Rows.{rowsOf}
 use Rattle.moves.specs.Deciding.{movable}
 use Rattle.moves.specs.Moves.{TheWalk}
 use Rattle.moves.specs.WalkLaws.{the-walk}
-use Rattle.bench.specs.Sound.{numberIn, stateAt, savedIn, Sound, sound?}
+use Rattle.bench.specs.Sound.{numberIn, stateAt, savedIn, Sound}
+use Rattle.bench.specs.Judging.{sound?}
 use Rattle.bench.specs.declared.Benched.{Benched}
 use Rattle.bench.specs.declared.Benched.the-variants as benched
 use Rattle.bench.specs.declared.Walked.{Walked}

@@ -143,7 +143,11 @@ pub record SavedUnder (name : ℕ) (l m : List ℕ) : Type 0 where
   pub sound : Sound m
   pub present : stateAt 0 m ≡ stateAt 0 l
   pub own : (savedIn name m ≡ 1) × (stateAt (suc name) m ≡ stateAt 0 l)
-  pub others : (other : ℕ) → other < 8 → (other ≡ name → ⊥) → (savedIn other m ≡ savedIn other l) × (stateAt (suc other) m ≡ stateAt (suc other) l)
+  pub others :
+      (other : ℕ)
+      → other < 8
+      → (other ≡ name → ⊥)
+      → (savedIn other m ≡ savedIn other l) × (stateAt (suc other) m ≡ stateAt (suc other) l)
 
 pub saved-under : (name : ℕ) (l : List ℕ) → name < 8 → 378 ≤ length l → Sound l → SavedUnder name l (withSaved name l)
 unfolding withSaved savedIn numberIn
@@ -182,7 +186,12 @@ saved-under name l h k s = record { same = same; number = number; sound = sound;
       state (suc other) (omega arith) ∙ other-state (suc name) (suc other) (stateAt 0 l) l w c (λ q. e (omega arith)),
     )
 
-    saved : (other : ℕ) → other < 8 → (getD m (370 + other) 0 ≡ 0 → ⊥) → Dec (other ≡ name) → Laying (getD m 369 0) (stateAt (suc other) m)
+    saved :
+        (other : ℕ)
+        → other < 8
+        → (getD m (370 + other) 0 ≡ 0 → ⊥)
+        → Dec (other ≡ name)
+        → Laying (getD m 369 0) (stateAt (suc other) m)
     saved other b u (yes e) = rw (e, number, own .1) (s .present)
     saved other b u (no e) = let o = others other b e in rw (number, o .1) (s .saved other b (λ q. u (o .0 ∙ q)))
 

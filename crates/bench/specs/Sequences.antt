@@ -15,10 +15,11 @@ use Rattle.moves.specs.MoveLaws.{move-keeps}
 use Rattle.moves.specs.Deciding.{movable}
 use Rattle.moves.specs.WalkLaws.{the-walk, walk-keeps}
 use Rattle.bench.specs.Sound.{numberIn, stateAt, savedIn, Sound}
-use Rattle.bench.specs.Benches.{withSaved, opened, benchLeft, refused, moveOutcome, saveOutcome, backOutcome, walkLeft, walkOf}
+use Rattle.bench.specs.Benches.{withSaved, opened, benchLeft, refused, moveOutcome, saveOutcome, backOutcome, walkLeft}
+use Rattle.bench.specs.Benches.{walkOf}
 use Rattle.bench.specs.BenchLaws.{on-each, decided-each, save-done, save-refused, back-done, back-never, back-refused}
 use Rattle.bench.specs.Kept.{changed, length-present, Kept, kept-none, kept-present, saved-under, opened-is, opened-sound}
-use Rattle.bench.specs.Laying.{length-opened}
+use Rattle.bench.specs.Opening.{length-opened}
 
 -- ---- calls
 
@@ -119,7 +120,8 @@ pub bench-holds :
     × (numberIn (afterCalls calls (opened n (recordParts numbers) entry)) ≡ n)
 bench-holds numbers entry n calls b h =
     let c = recordParts numbers in
-    let r = calls-stay calls (opened n c entry) (omega (arith, length-opened n c entry h)) (opened-sound n c entry (b .fits) (b .chain)) in
+    let r =
+    calls-stay calls (opened n c entry) (omega (arith, length-opened n c entry h)) (opened-sound n c entry (b .fits) (b .chain)) in
     (r .sound, r .number ∙ opened-is n c entry .number)
 
 -- Moving, coming back and walking leave all eight names as they were.
@@ -151,7 +153,13 @@ pub record SameName (name : ℕ) (l m : List ℕ) : Type 0 where
 kept-name : {l m : List ℕ} (name : ℕ) → name < 8 → Kept l m → SameName name l m
 kept-name name b k = record { flag = k .names name b .0; state = k .names name b .1 }
 
-call-spares : (name : ℕ) (call : Call) (l : List ℕ) → name < 8 → Spares name call → 378 ≤ length l → Sound l → SameName name l (afterCall call l)
+call-spares :
+    (name : ℕ) (call : Call) (l : List ℕ)
+    → name < 8
+    → Spares name call
+    → 378 ≤ length l
+    → Sound l
+    → SameName name l (afterCall call l)
 unfolding afterCall benchLeft Spares
 call-spares name (moving kind up row) l b p h s = kept-name name b (kept-move l h s kind up row)
 call-spares name (returning other) l b p h s = kept-name name b (kept-back l h s other)
@@ -190,4 +198,7 @@ save-and-back name calls l b p h s =
     let f = calls-spare name calls m (omega arith) p (omega (arith, k .same)) (k .sound) in
     let z = afterCalls calls m in
     let d = back-done name z (omega (arith, r .same, k .same)) (r .sound) b (λ q. omega (arith, q, f .flag, k .own .0)) in
-    rw (e, d) (changed 0 (stateAt (suc name) z) z (omega arith) (omega (arith, ap length (f .state), ap length (k .own .1), length-present l s)) (omega (arith, r .same, k .same)) .own ∙ f .state ∙ k .own .1)
+    let n : length (stateAt (suc name) z) ≡ 41 =
+    omega (arith, ap length (f .state), ap length (k .own .1), length-present l s) in
+    let c = changed 0 (stateAt (suc name) z) z (omega arith) n (omega (arith, r .same, k .same)) in
+    rw (e, d) (c .own ∙ f .state ∙ k .own .1)

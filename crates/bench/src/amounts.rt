@@ -3,7 +3,7 @@
 // in row b has its highest bit at c (kind 2).
 ghost use mathlib.Core.Path.{_≡_};
 ghost use Prim.Native.Nat.{_<_, _*_, _^_};
-ghost use Rattle.moves.specs.Amounts.{topBit, lowBit, riseKind, riseBy, fallKind, fallBy, Told};
+ghost use Rattle.moves.specs.Amounts.{topBit, lowBit, riseKind, riseBy, fallKind, fallBy, Tells};
 
 // A kind of move, 0 for none, and its amount.
 pub struct Amount {
@@ -31,7 +31,7 @@ pub fn low_bit(x: u64) -> u64
 // takes 3 × 2^m - 3 × 2^c and leaves from 2^c to 2^(c+1) - 1. So 3 × 2^m - x is from 2^c + 1 to 2^(c+1), and one less, the gap, has its
 // highest bit at c. Where the gap is 0, there is no move.
 pub fn rise(x: u64) -> Amount
-    ensures { λ r. ⌜ Told (r .kind) (r .by) (riseKind x) (riseBy x) ⌝ }
+    ensures { λ r. ⌜ Tells (r .kind) (r .by) (riseKind x) (riseBy x) ⌝ }
 {
     if x < 2 {
         return Amount { kind: 0, by: 0 };
@@ -56,7 +56,7 @@ pub fn rise(x: u64) -> Amount
 // the sum is 2^m, just past it.
 pub fn fall(x: u64, y: u64) -> Amount
     requires { ⌜ 2 * y < 2 ^ 64 ⌝ }
-    ensures { λ r. ⌜ Told (r .kind) (r .by) (fallKind x y) (fallBy x y) ⌝ }
+    ensures { λ r. ⌜ Tells (r .kind) (r .by) (fallKind x y) (fallBy x y) ⌝ }
 {
     if y == 0 {
         return Amount { kind: 0, by: 0 };

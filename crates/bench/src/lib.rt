@@ -5,8 +5,8 @@
 //     369           n
 //     370 to 377    for each name 0 if it was never saved, else another number
 //
-// Every service looks first whether this much is lent (refusal 1), then whether the present and each saved state is a chain of n
-// (refusal 17). With a refusal the bench is as it was. Numbers after these 378 are never touched.
+// Every service looks first whether enough is lent (refusal 1). All but opening look next whether the present and each saved state is
+// a chain of n (refusal 17). With a refusal the bench is as it was. Numbers after these 378 are never touched.
 mod amounts;
 mod laying;
 mod moving;

@@ -25,7 +25,8 @@ use Rattle.words.specs.Records.{judgedOf}
 use Rattle.words.specs.Refusals.{judged-refusals}
 use Rattle.words.specs.declared.Judged.{Judged}
 use Rattle.words.specs.declared.Judged.the-variants as judged
-use Rattle.bench.specs.Sound.{savedIn, Sound, sound?}
+use Rattle.bench.specs.Sound.{savedIn, Sound}
+use Rattle.bench.specs.Judging.{sound?}
 use Rattle.bench.specs.Benches as bench
 use Rattle.bench.specs.BenchLaws.{decided-each}
 use Rattle.bench.specs.declared.Benched.the-variants as benched

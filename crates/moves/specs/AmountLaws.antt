@@ -15,7 +15,7 @@ use Rattle.moves.specs.RowLaws.{pow-dvd, exp-lt}
 use Rattle.moves.specs.RowMoves.{Shape, one, two}
 use Rattle.moves.specs.RowMoveLaws.{Facts, facts, shape-pos}
 use Rattle.moves.specs.Amounts.{topBit, lowBit, gapKind, riseKindAt, riseByAt, riseKind, riseBy, fallKindAt, fallByAt}
-use Rattle.moves.specs.Amounts.{fallKind, fallBy, Told}
+use Rattle.moves.specs.Amounts.{fallKind, fallBy, Tells}
 use Rattle.moves.specs.BitLaws.{Low, low-or, low-add, top-is, top-exists, low-is, half-top}
 
 -- The lowest one bit of a move's amount is 2^c.
@@ -173,25 +173,25 @@ fall-complete {k} {s} {x} {m} {c} y w d h = rw (some, lowest) (fall-at y w d h)
 -- ---- for the code
 
 -- What `rise` tells, in its four cases.
-pub rise-none : (x : ℕ) → x < 2 → Told 0 0 (riseKind x) (riseBy x)
+pub rise-none : (x : ℕ) → x < 2 → Tells 0 0 (riseKind x) (riseBy x)
 unfolding riseKind
 rise-none x h = let e : riseKind x ≡ 0 = rw (lt-ltb x 2 h) in record { kinds = sym e; amounts = λ p. omega arith }
 
 module _ (x h : ℕ) (l : 2 ≤ x) (e : topBit x / 2 ≡ h) where
-  pub rise-first : 3 * h ≤ x → Told 1 h (riseKind x) (riseBy x)
+  pub rise-first : 3 * h ≤ x → Tells 1 h (riseKind x) (riseBy x)
   unfolding riseKind riseBy riseKindAt riseByAt
   rise-first t =
       let q : riseKind x ≡ 1 = rw (le-ltb x 2 l, e, le-leb (3 * h) x t) in
       let r : riseBy x ≡ h = rw (e, le-leb (3 * h) x t) in
       record { kinds = sym q; amounts = λ p. sym r }
 
-  pub rise-stuck : x < 3 * h → 3 * h - 1 - x ≡ 0 → Told 0 0 (riseKind x) (riseBy x)
+  pub rise-stuck : x < 3 * h → 3 * h - 1 - x ≡ 0 → Tells 0 0 (riseKind x) (riseBy x)
   unfolding riseKind riseKindAt gapKind
   rise-stuck t g =
       let q : riseKind x ≡ 0 = rw (le-ltb x 2 l, e, lt-leb (3 * h) x t, eq-eqb (3 * h - 1 - x) 0 g) in
       record { kinds = sym q; amounts = λ p. omega arith }
 
-  pub rise-second : x < 3 * h → (3 * h - 1 - x ≡ 0 → ⊥) → Told 2 (h - topBit (3 * h - 1 - x)) (riseKind x) (riseBy x)
+  pub rise-second : x < 3 * h → (3 * h - 1 - x ≡ 0 → ⊥) → Tells 2 (h - topBit (3 * h - 1 - x)) (riseKind x) (riseBy x)
   unfolding riseKind riseKindAt gapKind riseBy riseByAt
   rise-second t g =
       let q : riseKind x ≡ 2 = rw (le-ltb x 2 l, e, lt-leb (3 * h) x t, ne-eqb (3 * h - 1 - x) 0 g) in
@@ -206,19 +206,19 @@ gap-top x h l u e g =
     omega (arith, r .1, r .3, e)
 
 -- What `fall` tells, in its three cases.
-pub fall-none : (x : ℕ) → Told 0 0 (fallKind x 0) (fallBy x 0)
+pub fall-none : (x : ℕ) → Tells 0 0 (fallKind x 0) (fallBy x 0)
 unfolding fallKind
 fall-none x = let e : fallKind x 0 ≡ 0 = refl in record { kinds = sym e; amounts = λ p. omega arith }
 
 module _ (x y g : ℕ) (l : y ≡ 0 → ⊥) (e : lowBit y ≡ g) where
-  pub fall-first : x < g → Told 1 g (fallKind x y) (fallBy x y)
+  pub fall-first : x < g → Tells 1 g (fallKind x y) (fallBy x y)
   unfolding fallKind fallBy fallKindAt fallByAt
   fall-first t =
       let q : fallKind x y ≡ 1 = rw (ne-eqb y 0 l, e, lt-ltb x g t) in
       let r : fallBy x y ≡ g = rw (e, lt-ltb x g t) in
       record { kinds = sym q; amounts = λ p. sym r }
 
-  pub fall-second : g ≤ x → Told 2 (lowBit (y + g) - g) (fallKind x y) (fallBy x y)
+  pub fall-second : g ≤ x → Tells 2 (lowBit (y + g) - g) (fallKind x y) (fallBy x y)
   unfolding fallKind fallBy fallKindAt fallByAt
   fall-second t =
       let q : fallKind x y ≡ 2 = rw (ne-eqb y 0 l, e, le-ltb x g t) in

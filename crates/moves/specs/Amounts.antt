@@ -62,6 +62,6 @@ fallBy x y = fallByAt x y (lowBit y)
 -- ---- what the code tells
 
 -- The code tells `kind` and `by` for the kind k and the amount b. The amount says nothing where there is no move.
-pub record Told (kind by k b : ℕ) : Type 0 where
+pub record Tells (kind by k b : ℕ) : Type 0 where
   pub kinds : kind ≡ k
   pub amounts : 0 < k → by ≡ b

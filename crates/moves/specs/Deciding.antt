@@ -1,6 +1,6 @@
 -- Whether a chain of n has a move can be decided: the answer is the chain that the move leads to, or that there is none. The code of
 -- the bench decides it too; its contract names this answer, and not the way to it.
--- In this order: tests of every row; the moves of rows; the moves of a chain.
+-- In this order: tests of every row; the moves of rows; the moves of a chain; whether rows are those of a chain.
 use mathlib.Core.Path.{_≡_, refl, sym, _∙_}
 use mathlib.Core.Bool.{Bool, true, false, true≢false}
 use mathlib.Core.List.{List}
@@ -17,7 +17,8 @@ use Rattle.moves.specs.RowMoves.{UpRows, DownRows, RowMove}
 use Rattle.moves.specs.Amounts.{riseKind, riseBy, fallKind, fallBy, lowBit}
 use Rattle.moves.specs.Changes.{raised, lowered, Free, Clear, pastOf}
 use Rattle.moves.specs.Plans.{PlannedUp, PlannedDown}
-use Rattle.moves.specs.PlanLaws.{up-outside, up-other, up-none, up-blocked, up-planned, down-outside, down-other, down-none, down-blocked, down-planned}
+use Rattle.moves.specs.PlanLaws.{up-outside, up-other, up-none, up-blocked, up-planned, down-outside, down-other, down-none}
+use Rattle.moves.specs.PlanLaws.{down-blocked, down-planned}
 use Rattle.moves.specs.MoveLaws.{held-chain, chain-held, move-tie, move-keeps, move-for}
 use lib.Ieee.Bits.{is-true}
 
@@ -35,6 +36,10 @@ every-below {P} t (suc k) = go (every-below t k) (t k)
         at : (i : ℕ) → i < suc k → Dec (i < k) → P i
         at i h (yes l) = f i l
         at i h (no l) = let e : i ≡ k = omega arith in rw e p
+
+pub isnt : {A : Type 0} → Dec A → Dec (A → ⊥)
+isnt (yes a) = no (λ f. f a)
+isnt (no a) = yes a
 
 pub implies : {A B : Type 0} → Dec A → Dec B → Dec (A → B)
 implies (no a) b = yes (λ x. absurd (a x))
@@ -59,7 +64,12 @@ clear? b p R = go (every-below {P = λ k. b ≤ k → getD R k 0 % p ≡ 0} (λ 
 plan-up : (kind b : ℕ) (R : Rows) → Held R → (s : ℕ) × PlannedUp kind b R s
 plan-up kind b R h = go (decLt b 40)
   where
-    at : b < 40 → Dec (riseKind (getD R b 0) ≡ kind) → Dec (0 < kind) → Dec (Free b (lowBit (riseBy (getD R b 0))) R) → (s : ℕ) × PlannedUp kind b R s
+    at :
+        b < 40
+        → Dec (riseKind (getD R b 0) ≡ kind)
+        → Dec (0 < kind)
+        → Dec (Free b (lowBit (riseBy (getD R b 0))) R)
+        → (s : ℕ) × PlannedUp kind b R s
     at l (no e) p f = (0, up-other b R h l kind e)
     at l (yes e) (no p) f = (0, up-none b R h l kind (omega arith))
     at l (yes e) (yes p) (no f) = (0, up-blocked b R h l kind f)

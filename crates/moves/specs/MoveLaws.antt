@@ -142,7 +142,11 @@ module _ (n : ℕ) (l : n < 2 ^ 64) where
       let k′ = move-keeps kind b up c d′ h w′ in
       same-rows n d d′ l k k′ (one up (move-tie kind b up c d h k .0 w) (move-tie kind b up c d′ h k′ .0 w′))
     where
-      one : (up : Bool) → RowMove kind up b (rowsOf 41 c) (rowsOf 41 d) → RowMove kind up b (rowsOf 41 c) (rowsOf 41 d′) → rowsOf 41 d ≡ rowsOf 41 d′
+      one :
+          (up : Bool)
+          → RowMove kind up b (rowsOf 41 c) (rowsOf 41 d)
+          → RowMove kind up b (rowsOf 41 c) (rowsOf 41 d′)
+          → rowsOf 41 d ≡ rowsOf 41 d′
       one true x y = up-one kind b (rowsOf 41 c) (rowsOf 41 d) (rowsOf 41 d′) (chain-held n c l h .0) x y
       one false x y = down-one kind b (rowsOf 41 c) (rowsOf 41 d) (rowsOf 41 d′) (chain-held n c l h .0) x y
 
@@ -153,7 +157,11 @@ module _ (n : ℕ) (l : n < 2 ^ 64) where
     pub rows : R ≡ rowsOf 41 after
     pub move : Move kind up b c after
 
-  pub move-for : (kind b : ℕ) (up : Bool) (c : List Part) (R : Rows) → ChainOf n c → RowMove kind up b (rowsOf 41 c) R → MoveFor kind b up c R
+  pub move-for :
+      (kind b : ℕ) (up : Bool) (c : List Part) (R : Rows)
+      → ChainOf n c
+      → RowMove kind up b (rowsOf 41 c) R
+      → MoveFor kind b up c R
   move-for kind b up c R h w =
       let g = chain-held n c l h in
       let k = row-move-keeps kind b up (rowsOf 41 c) R (g .0) w in

@@ -1,7 +1,7 @@
 -- The moves of a chain: 003, section 2.3; document 02, T-08. The walk: 003, theorem 1.
 -- The parts 2^a × 3^b with the same b are row b of a chain. A chain has its parts largest first.
 -- In this order: the two kinds of move; a move by its direction; the binary chain and the walk to it; the bound of the walk.
--- Definitions only. What holds of moves and walks is in MoveLaws and WalkLaws.
+-- Definitions only. What holds of moves and walks is in MoveLaws, Steps and WalkLaws.
 use mathlib.Core.Path.{_≡_}
 use mathlib.Core.Bool.{Bool, true, false}
 use mathlib.Core.List.{List, [], _∷_, _++_}
@@ -90,7 +90,7 @@ inRow zero b n = 0
 inRow (suc k) b n = one-if (leb (2 ^ k * 3 ^ b) n) + inRow k b n
 
 -- The number of points (a, b) with a below 64, b from 1 to k, and 2^a × 3^b at most n. With k = 40 these are all such points of a
--- number below 2^64.
+-- number below 2^64: see `part-bounds` in chains.
 unfoldable pub pointsIn : ℕ → ℕ → ℕ
 pointsIn zero n = 0
 pointsIn (suc k) n = inRow 64 (suc k) n + pointsIn k n

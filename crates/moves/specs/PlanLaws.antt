@@ -14,7 +14,7 @@ use Rattle.moves.specs.Rows.{Rows, Held}
 use Rattle.moves.specs.RowLaws.{row-amount}
 use Rattle.moves.specs.RowMoves.{UpRows, DownRows}
 use Rattle.moves.specs.RowMoveLaws.{facts, shape-pos, shape-kind, shape-two, swap-within}
-use Rattle.moves.specs.Amounts.{lowBit, riseKind, riseBy, fallKind, fallBy, Told}
+use Rattle.moves.specs.Amounts.{lowBit, riseKind, riseBy, fallKind, fallBy, Tells}
 use Rattle.moves.specs.AmountLaws.{rise-complete, Rise, rise-at}
 use Rattle.moves.specs.Phases.{fall-next}
 use Rattle.moves.specs.Changes.{Free, Clear, pastOf}
@@ -146,8 +146,8 @@ module _ (b : ℕ) (R : Rows) (h : Held R) where
 -- ---- the kind k and the amount s as `fall` told them
 
 module _ (b : ℕ) (R : Rows) (h : Held R) (l : b < 40) (k s : ℕ)
-    (t : Told k s (fallKind (getD R b 0) (getD R (b + 1) 0)) (fallBy (getD R b 0) (getD R (b + 1) 0))) where
-  told : Told k s (fallKind (getD R b 0) (getD R (suc b) 0)) (fallBy (getD R b 0) (getD R (suc b) 0))
+    (t : Tells k s (fallKind (getD R b 0) (getD R (b + 1) 0)) (fallBy (getD R b 0) (getD R (b + 1) 0))) where
+  told : Tells k s (fallKind (getD R b 0) (getD R (suc b) 0)) (fallBy (getD R b 0) (getD R (suc b) 0))
   told = rw (add-one b) at t
 
   -- The cases of a move down follow; p is `pastOf kind s`.

@@ -95,7 +95,8 @@ rows-run n zero c b w =
 rows-run n (suc k) c b w =
     let m = pow-mono {i = suc c} {j = suc (c + k)} (omega arith) in
     let q : 2 ^ (c + suc k) ≡ 2 ^ suc (c + k) = ap (λ (i : ℕ). 2 ^ i) {x = c + suc k} {y = suc (c + k)} (omega arith) in
-    let r : 2 ^ suc (c + suc k) ≡ 2 * 2 ^ suc (c + k) = ap (λ (i : ℕ). 2 ^ suc i) {x = c + suc k} {y = suc (c + k)} (omega arith) ∙ omega (arith, pow-suc 2 (suc (c + k))) in
+    let r : 2 ^ suc (c + suc k) ≡ 2 * 2 ^ suc (c + k) =
+    ap (λ (i : ℕ). 2 ^ suc i) {x = c + suc k} {y = suc (c + k)} (omega arith) ∙ omega (arith, pow-suc 2 (suc (c + k))) in
     let e : 2 ^ (c + suc k) + (2 ^ suc (c + k) - 2 ^ suc c) ≡ 2 ^ suc (c + suc k) - 2 ^ suc c = omega arith in
     ap (addAt b (2 ^ (c + suc k))) (rows-run n k c b w)
     ∙ add-same b (2 ^ (c + suc k)) (2 ^ suc (c + k) - 2 ^ suc c) (rowsOf n w)

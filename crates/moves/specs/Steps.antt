@@ -1,6 +1,7 @@
 -- A move down takes the smallest part of its upper row: 003, theorem 1. Of which kind it is depends on the part below that one.
 -- Then 4 and 12, document 02's example of the stricter condition.
 use mathlib.Core.Path.{_≡_, refl, sym, ap}
+use mathlib.Core.Logic.{_⊎_, inl, inr}
 use mathlib.Core.Bool.{Bool}
 use mathlib.Core.List.{List, [], _∷_, _++_, append-assoc}
 use Prim.Native.Nat.{ℕ, zero, suc, _+_, _≤_}
@@ -8,7 +9,8 @@ use native.Mathlib.Omega.{arith}
 use Rattle.chains.specs.Chains.{Part, value, Chained, total, ChainOf}
 use Rattle.chains.specs.Divides.{Above, multiple-above}
 use Rattle.moves.specs.Moves.{part, Every, run, Up, first, second, Move, Step}
-use Rattle.moves.specs.Chaining.{every-map, every-append, every-join, chained-every, chained-rest, chained-after, before-above}
+use Rattle.moves.specs.Chaining.{every-map, every-append, every-join, chained-every, chained-rest, chained-after}
+use Rattle.moves.specs.Chaining.{before-above}
 use Rattle.moves.specs.MoveLaws.{move-keeps}
 
 -- The part 2^a × 3^(b+1) is the smallest of row b + 1 of the chain c, and no part of d. The kind is the first if 2^a × 3^b is no part
@@ -20,6 +22,7 @@ pub record Smallest (kind b : ℕ) (c d : List Part) : Type 0 where
   pub is : c ≡ before ++ (part a (suc b) ∷ after)
   pub smallest : Every (λ p. p .b ≤ b) after
   pub gone : Every (λ p. p ≡ part a (suc b) → ⊥) d
+  pub kinds : (kind ≡ 1) ⊎ (kind ≡ 2)
   pub kind-1 : kind ≡ 1 → Every (λ p. p ≡ part a b → ⊥) c
   pub kind-2 : kind ≡ 2 → (v : List Part) × (after ≡ part a b ∷ v)
 
@@ -56,6 +59,7 @@ down-smallest {kind} {b} hc hd (first a u v f) =
       gone = every-join (λ p. p ≡ part a (suc b) → ⊥) u (part (suc a) b ∷ part a b ∷ v)
           (above-not (part a (suc b)) u over)
           (lower-not a b (part (suc a) b ∷ part a b ∷ v) (omega arith, (omega arith, low)));
+      kinds = inl refl;
       kind-1 = λ e. every-join (λ p. p ≡ part a b → ⊥) u (part a (suc b) ∷ v)
           (higher-not a b u over) (
             (λ q. omega (arith, ap (λ (r : Part). r .b) q)),
@@ -67,9 +71,11 @@ down-smallest {kind} {b} hc hd (second g k u v f gap free) =
     let top = part (suc (suc (g + k))) b in
     let up = run k g (suc b) in
     let last = part g b ∷ v in
-    let e : u ++ (up ++ (part g (suc b) ∷ last)) ≡ (u ++ up) ++ (part g (suc b) ∷ last) = sym (append-assoc u up (part g (suc b) ∷ last)) in
+    let e : u ++ (up ++ (part g (suc b) ∷ last)) ≡ (u ++ up) ++ (part g (suc b) ∷ last) =
+    sym (append-assoc u up (part g (suc b) ∷ last)) in
     let w = chained-every top (run k g b ++ v) (chained-after u (top ∷ (run k g b ++ v)) hd) in
-    let low : Every (λ p. p .b ≤ b) v = every-map {P = Above top} v (λ p j. j .upward) (every-append (Above top) (run k g b) v w .1) in
+    let low : Every (λ p. p .b ≤ b) v =
+    every-map {P = Above top} v (λ p j. j .upward) (every-append (Above top) (run k g b) v w .1) in
     let over = before-above (u ++ up) (part g (suc b)) last (rw e at hc) in
     record {
       a = g;
@@ -80,6 +86,7 @@ down-smallest {kind} {b} hc hd (second g k u v f gap free) =
       gone = every-join (λ p. p ≡ part g (suc b) → ⊥) u (top ∷ (run k g b ++ v))
           (above-not (part g (suc b)) u (every-append (λ p. Above p (part g (suc b))) u up over .0))
           (lower-not g b (top ∷ (run k g b ++ v)) (omega arith, every-join (λ p. p .b ≤ b) (run k g b) v (run-row k g b) low));
+      kinds = inr refl;
       kind-1 = λ q. absurd (omega arith);
       kind-2 = λ q. (v, refl);
     }
@@ -94,15 +101,28 @@ step-smallest c d h s = down-smallest h (s .down .0) (s .down .1)
 abbrev pub twelve-four : List Part
 twelve-four = part 2 1 ∷ part 2 0 ∷ []
 
--- They are a chain of 16, and no move leads to 4, 3 and 9: no chain has both 4 and 3.
+-- They are a chain of 16. A move of them leads to no parts of which some are 4 and 3, in whatever order: no chain has both.
 pub no-move-to-nine :
     (kind b : ℕ) (up : Bool) (d : List Part)
     → Move kind up b twelve-four d
-    → (u v w : List Part) → d ≡ u ++ (part 2 0 ∷ (v ++ (part 0 1 ∷ w))) → ⊥
+    → (u v w : List Part)
+    → (d ≡ u ++ (part 2 0 ∷ (v ++ (part 0 1 ∷ w))) → ⊥)
+    × (d ≡ u ++ (part 0 1 ∷ (v ++ (part 2 0 ∷ w))) → ⊥)
 unfolding total value
-no-move-to-nine kind b up d m u v w e =
-    let k : ChainOf 16 twelve-four = record { chained = (multiple-above (part 2 1) (part 2 0) .1 (record { across = omega arith; upward = omega arith; apart = omega arith }), tt); sums = refl } in
-    let r = move-keeps 16 (omega arith) kind b up twelve-four d k m in
-    let h : Chained (part 2 0 ∷ (v ++ (part 0 1 ∷ w))) = chained-after u (part 2 0 ∷ (v ++ (part 0 1 ∷ w))) (rw e at (r .chained)) in
-    let o = every-append (Above (part 2 0)) v (part 0 1 ∷ w) (chained-every (part 2 0) (v ++ (part 0 1 ∷ w)) h) .1 .0 in
-    omega (arith, o .upward)
+no-move-to-nine kind b up d m u v w = (
+  λ e. let o = both (part 2 0) (part 0 1) e in omega (arith, o .upward),
+  λ e. let o = both (part 0 1) (part 2 0) e in omega (arith, o .across),
+)
+  where
+    k : ChainOf 16 twelve-four
+    k =
+        record {
+          chained = (multiple-above (part 2 1) (part 2 0) .1 (record { across = omega arith; upward = omega arith; apart = omega arith }), tt);
+          sums = refl;
+        }
+
+    both : (p q : Part) → d ≡ u ++ (p ∷ (v ++ (q ∷ w))) → Above p q
+    both p q e =
+        let r = move-keeps 16 (omega arith) kind b up twelve-four d k m in
+        let h : Chained (p ∷ (v ++ (q ∷ w))) = chained-after u (p ∷ (v ++ (q ∷ w))) (rw e at (r .chained)) in
+        every-append (Above p) v (q ∷ w) (chained-every p (v ++ (q ∷ w)) h) .1 .0

@@ -18,7 +18,8 @@ use Rattle.moves.specs.RowMoveLaws.{swap-within}
 use Rattle.moves.specs.Layouts.{length-rows, length-add, laid-out-room}
 use Rattle.moves.specs.Chaining.{every-map, every-append, every-with, before-row, chained-after, chained-every, chained-rest}
 use Rattle.moves.specs.UpChains.{gap-chained}
-use Rattle.moves.specs.RowsOf.{addAll, add-same, add-here, take-add, rows-append, all-add, rows-run, take-all, getD-all, part-row, room-row, room-under, Peeled, peel}
+use Rattle.moves.specs.RowsOf.{addAll, add-same, add-here, take-add, rows-append, all-add, rows-run, take-all, getD-all}
+use Rattle.moves.specs.RowsOf.{part-row, room-row, room-under, Peeled, peel}
 
 -- ---- from the chain to its rows
 
@@ -30,7 +31,10 @@ add-cut [] x l (suc b) v h = absurd (omega arith)
 add-cut (w ∷ u) x l zero v h = absurd (omega arith)
 add-cut (w ∷ u) x l (suc b) v h = ap (λ (k : Rows). w ∷ k) (add-cut u x l b v (omega arith))
 
-add-cut-above : (u : Rows) (x y : ℕ) (l : Rows) (b v : ℕ) → length u ≡ b → addAt (suc b) v (u ++ (x ∷ y ∷ l)) ≡ u ++ (x ∷ (y + v) ∷ l)
+add-cut-above :
+    (u : Rows) (x y : ℕ) (l : Rows) (b v : ℕ)
+    → length u ≡ b
+    → addAt (suc b) v (u ++ (x ∷ y ∷ l)) ≡ u ++ (x ∷ (y + v) ∷ l)
 unfolding addAt
 add-cut-above [] x y l zero v h = refl
 add-cut-above [] x y l (suc b) v h = absurd (omega arith)
@@ -90,7 +94,9 @@ length-all [] l = refl
 length-all (p ∷ u) l = length-add (p .b) (2 ^ p .a) (addAll u l) ∙ length-all u l
 
 -- Two parts more in a row, before others.
-rows-two : (n b x y : ℕ) (u v : List Part) → rowsOf n (u ++ (part x b ∷ part y b ∷ v)) ≡ addAt b (2 ^ x + 2 ^ y) (addAll u (rowsOf n v))
+rows-two :
+    (n b x y : ℕ) (u v : List Part)
+    → rowsOf n (u ++ (part x b ∷ part y b ∷ v)) ≡ addAt b (2 ^ x + 2 ^ y) (addAll u (rowsOf n v))
 unfolding rowsOf
 rows-two n b x y u v =
     rows-append n u (part x b ∷ part y b ∷ v)
@@ -126,7 +132,8 @@ unfolding rowsOf
 rows-gap n c k b u v =
     let m = 2 ^ suc (c + k) in
     let o = pow-mono {i = suc c} {j = suc (c + k)} (omega arith) in
-    let e : 2 ^ suc (suc (c + k)) + (m - 2 ^ suc c) ≡ 3 * (m - 2 ^ c) + 2 ^ c = omega (arith, pow-suc 2 (suc (c + k)), pow-suc 2 c) in
+    let e : 2 ^ suc (suc (c + k)) + (m - 2 ^ suc c) ≡ 3 * (m - 2 ^ c) + 2 ^ c =
+    omega (arith, pow-suc 2 (suc (c + k)), pow-suc 2 c) in
     rows-append n u (part (suc (suc (c + k))) b ∷ (run k c b ++ v))
     ∙ ap (λ (l : Rows). addAll u (addAt b (2 ^ suc (suc (c + k))) l)) (rows-run n k c b v)
     ∙ ap (addAll u) (add-same b (2 ^ suc (suc (c + k))) (m - 2 ^ suc c) (rowsOf n v))
@@ -145,7 +152,10 @@ rows-filled n c k b u v =
     let e : m - 2 ^ suc c + 2 ^ c ≡ m - 2 ^ c = omega (arith, pow-suc 2 c) in
     let w = addAt b (2 ^ c) (rowsOf n v) in
     rows-append n u (run k c (suc b) ++ (part c (suc b) ∷ part c b ∷ v))
-    ∙ ap (addAll u) (rows-run n k c (suc b) (part c (suc b) ∷ part c b ∷ v) ∙ add-same (suc b) (m - 2 ^ suc c) (2 ^ c) w ∙ ap (λ (i : ℕ). addAt (suc b) i w) e)
+    ∙ ap (addAll u)
+    (rows-run n k c (suc b) (part c (suc b) ∷ part c b ∷ v)
+    ∙ add-same (suc b) (m - 2 ^ suc c) (2 ^ c) w
+    ∙ ap (λ (i : ℕ). addAt (suc b) i w) e)
     ∙ all-add u (suc b) (m - 2 ^ c) w
     ∙ ap (addAt (suc b) (m - 2 ^ c)) (all-add u b (2 ^ c) (rowsOf n v))
 
@@ -162,7 +172,8 @@ second-rows n c k b u v f gap free h l =
     let top = part (suc (suc (c + k))) b in
     let g : Every (λ p. b < p .b) u = every-map u (λ p j. j .1) (before-row u top (run k c b ++ v) h f) in
     let W = addAll u (rowsOf n v) in
-    let w = low-of n b c u v g (omega arith) (gap-chained c b (run k c b) v top (chained-after u (top ∷ (run k c b ++ v)) h) refl gap free) in
+    let w =
+    low-of n b c u v g (omega arith) (gap-chained c b (run k c b) v top (chained-after u (top ∷ (run k c b ++ v)) h) refl gap free) in
     let i : length W ≡ n = length-all u (rowsOf n v) ∙ length-rows n v in
     let x = add-here b (2 ^ c) W (omega (arith, i)) in
     let o = pow-mono {i = suc c} {j = suc (c + k)} (omega arith) in
@@ -174,7 +185,12 @@ second-rows n c k b u v f gap free h l =
     (rw (take-add b b (2 ^ c) W (omega arith)) (w .under)))
 
 -- A move up of a chain is one of its rows.
-pub up-rows : {kind b : ℕ} {c d : List Part} (n : ℕ) → Up kind b c d → Chained c → suc b < n → UpRows kind b (rowsOf n c) (rowsOf n d)
+pub up-rows :
+    {kind b : ℕ} {c d : List Part} (n : ℕ)
+    → Up kind b c d
+    → Chained c
+    → suc b < n
+    → UpRows kind b (rowsOf n c) (rowsOf n d)
 up-rows {kind} {b} n (first a u v f) h l = first-rows n a b u v f h l
 up-rows {kind} {b} n (second c k u v f gap free) h l = second-rows n c k b u v f gap free h l
 
@@ -237,7 +253,11 @@ peel-run n b c (suc k) x w h f l e = go (peel n b (c + suc k) w h f (omega (arit
 
     go :
         Peeled n b (c + suc k) w
-        → ((v : List Part) → Chained v → Every (λ p. (p .b ≤ b) × (p .b < n)) v → getD (rowsOf n v) b 0 + 2 ^ suc c ≡ 2 ^ suc (c + k) + x → Run n b c k x v)
+        → ((v : List Part)
+        → Chained v
+        → Every (λ p. (p .b ≤ b) × (p .b < n)) v
+        → getD (rowsOf n v) b 0 + 2 ^ suc c ≡ 2 ^ suc (c + k) + x
+        → Run n b c k x v)
         → Run n b c (suc k) x w
     go p rec =
         let q : 2 ^ (c + suc k) ≡ 2 ^ suc (c + k) = ap (λ (i : ℕ). 2 ^ i) {x = c + suc k} {y = suc (c + k)} (omega arith) in
@@ -315,7 +335,10 @@ module _ (n b : ℕ) (c : List Part) (h : Chained c) (f : Every (λ p. p .b < n)
       record {
         chained = chained-after (r .above) (r .others) (rw (r .is) at h);
         rest = every-with (r .others) (λ p x y. (x, y)) (r .rest) (every-append (λ p. p .b < n) (r .above) (r .others) g .1);
-        row = sym (ap (λ (k : List Part). getD (rowsOf n k) b 0) (r .is) ∙ ap (λ (l : Rows). getD l b 0) (rows-append n (r .above) (r .others)) ∙ getD-all b (r .above) (rowsOf n (r .others)) (r .higher));
+        row = sym
+            (ap (λ (k : List Part). getD (rowsOf n k) b 0) (r .is)
+            ∙ ap (λ (l : Rows). getD l b 0) (rows-append n (r .above) (r .others))
+            ∙ getD-all b (r .above) (rowsOf n (r .others)) (r .higher));
         none = every-map (r .above) (λ p x e. omega arith) (r .higher);
       }
 
@@ -323,10 +346,14 @@ module _ (n b : ℕ) (c : List Part) (h : Chained c) (f : Every (λ p. p .b < n)
   first-up m x l e =
       let r = cut-at b c h in
       let o = part-of r in
-      let p = peel n b (suc m) (r .others) (o .chained) (o .rest) (omega (arith, o .row, e, pow-suc 2 m)) (omega (arith, o .row, e, pow-suc 2 m, pow-suc 2 (suc m))) in
+      let p =
+      peel n b (suc m) (r .others) (o .chained) (o .rest) (omega (arith, o .row, e, pow-suc 2 m))
+      (omega (arith, o .row, e, pow-suc 2 m, pow-suc 2 (suc m))) in
       let h′ = rw (p .is) at (o .chained) in
       let f′ = rw (p .is) at (o .rest) in
-      let q = peel n b m (p .rest) (chained-rest (part (suc m) b) (p .rest) h′) (f′ .1) (omega (arith, p .row, o .row, e, pow-suc 2 m)) (omega (arith, p .row, o .row, e, pow-suc 2 m)) in
+      let q =
+      peel n b m (p .rest) (chained-rest (part (suc m) b) (p .rest) h′) (f′ .1)
+      (omega (arith, p .row, o .row, e, pow-suc 2 m)) (omega (arith, p .row, o .row, e, pow-suc 2 m)) in
       let i : c ≡ r .above ++ (part (suc m) b ∷ part m b ∷ q .rest) =
       r .is ∙ ap (λ (k : List Part). r .above ++ k) (p .is ∙ ap (λ (k : List Part). part (suc m) b ∷ k) (q .is)) in
       up-for i (first m (r .above) (q .rest) (o .none))
@@ -347,10 +374,13 @@ module _ (n b : ℕ) (c : List Part) (h : Chained c) (f : Every (λ p. p .b < n)
       let t : 2 ^ top ≡ 2 * 2 ^ suc (g + k) = omega (arith, pow-suc 2 (suc (g + k))) in
       let t′ : 2 ^ suc top ≡ 2 * 2 ^ top = omega (arith, pow-suc 2 top) in
       let s : 2 ^ suc g ≡ 2 * 2 ^ g = omega (arith, pow-suc 2 g) in
-      let p = peel n b top (r .others) (o .chained) (o .rest) (omega (arith, o .row, e, t, s)) (omega (arith, o .row, e, t, t′, s)) in
+      let p =
+      peel n b top (r .others) (o .chained) (o .rest) (omega (arith, o .row, e, t, s)) (omega (arith, o .row, e, t, t′, s)) in
       let h′ = rw (p .is) at (o .chained) in
       let f′ = rw (p .is) at (o .rest) in
-      let q = peel-run n b g k (x - 2 ^ g) (p .rest) (chained-rest (part top b) (p .rest) h′) (f′ .1) (omega (arith, s)) (omega (arith, p .row, o .row, e, t, s)) in
+      let q =
+      peel-run n b g k (x - 2 ^ g) (p .rest) (chained-rest (part top b) (p .rest) h′) (f′ .1) (omega (arith, s))
+      (omega (arith, p .row, o .row, e, t, s)) in
       let i : c ≡ r .above ++ (part top b ∷ (run k g b ++ q .rest)) =
       r .is ∙ ap (λ (j : List Part). r .above ++ j) (p .is ∙ ap (λ (j : List Part). part top b ∷ j) (q .is)) in
       run-up n b g k c (r .above) (q .rest) i f (o .none) (omega (arith, q .row, s)) under bn
@@ -363,7 +393,8 @@ module _ (n b : ℕ) (c : List Part) (h : Chained c) (f : Every (λ p. p .b < n)
       let l : b < n = omega (arith, length-rows n c) in
       let g = getD-cut (w .under) (3 * w .s + w .x) (w .y) (w .over) b (w .row) in
       let e : getD (rowsOf n c) b 0 ≡ 3 * w .s + w .x = ap (λ (l : Rows). getD l b 0) (w .is-low) ∙ g .0 in
-      let t : take b (rowsOf n c) ≡ w .under = ap (λ (l : Rows). take b l) (w .is-low) ∙ cut (w .under) ((3 * w .s + w .x) ∷ w .y ∷ w .over) b (w .row) .0 in
+      let t : take b (rowsOf n c) ≡ w .under =
+      ap (λ (l : Rows). take b l) (w .is-low) ∙ cut (w .under) ((3 * w .s + w .x) ∷ w .y ∷ w .over) b (w .row) .0 in
       shaped l (w .shape) e (λ k. rw t (r .free k))
     where
       shaped :

@@ -8,7 +8,8 @@ use native.Mathlib.Omega.{arith}
 use Rattle.chains.specs.Chains.{Part, value, Chained, total}
 use Rattle.chains.specs.Divides.{Above}
 use Rattle.moves.specs.Moves.{part, Every, run, Up, first, second}
-use Rattle.moves.specs.Chaining.{chained-cons, chained-rest, chained-every, chained-after, chained-replace, chained-lift, every-map, every-append, before-row}
+use Rattle.moves.specs.Chaining.{chained-cons, chained-rest, chained-every, chained-after, chained-replace, chained-lift}
+use Rattle.moves.specs.Chaining.{every-map, every-append, before-row}
 
 -- Parts side by side before the part below them.
 pub run-chained : (k c b : ℕ) (w : List Part) → Chained (part c b ∷ w) → Chained (run k c b ++ (part c b ∷ w))
@@ -110,8 +111,10 @@ run-total : (k c b : ℕ) → total (run k c b) + value (part (suc c) b) ≡ val
 unfolding run total
 run-total zero c b = omega (arith, ap (λ (i : ℕ). value (part (suc i) b)) {x = c} {y = c + 0} (omega arith))
 run-total (suc k) c b =
-    let e : value (part (c + suc k) b) ≡ value (part (suc (c + k)) b) = ap (λ (i : ℕ). value (part i b)) {x = c + suc k} {y = suc (c + k)} (omega arith) in
-    let f : value (part (suc (c + suc k)) b) ≡ value (part (suc (suc (c + k))) b) = ap (λ (i : ℕ). value (part (suc i) b)) {x = c + suc k} {y = suc (c + k)} (omega arith) in
+    let e : value (part (c + suc k) b) ≡ value (part (suc (c + k)) b) =
+    ap (λ (i : ℕ). value (part i b)) {x = c + suc k} {y = suc (c + k)} (omega arith) in
+    let f : value (part (suc (c + suc k)) b) ≡ value (part (suc (suc (c + k))) b) =
+    ap (λ (i : ℕ). value (part (suc i) b)) {x = c + suc k} {y = suc (c + k)} (omega arith) in
     omega (arith, run-total k c b, twice (suc (c + k)) b)
 
 -- A move keeps the sum.

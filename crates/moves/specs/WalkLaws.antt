@@ -1,7 +1,7 @@
 -- The walk of a chain of n, a number below 2^64, down to the binary chain: 003, theorem 1; document 02, T-08.
 -- In this order: walks of a chain and of its rows; the theorems of record: every chain of n has one walk, its length is at most the
 -- number of points with b at least 1 and 2^a × 3^b at most n, so at most 1,280, and it ends at the binary chain of n, which has as
--- many parts as n has one bits; a step takes the smallest part of the highest row.
+-- many parts as n has one bits. That a step takes the smallest part of the highest row is in Steps.
 use mathlib.Core.Path.{_≡_, refl, sym, ap, _∙_}
 use mathlib.Core.Bool.{false}
 use mathlib.Core.List.{List, [], _∷_}
@@ -47,11 +47,22 @@ over-zeros : {kind b : ℕ} {R R′ : Rows} (r : DownRows kind b R R′) → ((i
 over-zeros {kind} {b} {R} r f =
     rw (over-rows r) at (all-drop (λ (y : ℕ). y ≡ 0) (suc (suc b)) R (λ i g l. f i g))
 
-zeros-above : {kind b : ℕ} {R R′ : Rows} (r : DownRows kind b R R′) → Zeros (r .swap .over) → (i : ℕ) → suc b < i → i < length R → getD R i 0 ≡ 0
+zeros-above :
+    {kind b : ℕ} {R R′ : Rows} (r : DownRows kind b R R′)
+    → Zeros (r .swap .over)
+    → (i : ℕ)
+    → suc b < i
+    → i < length R
+    → getD R i 0 ≡ 0
 zeros-above {kind} {b} {R} r h i g l = drop-all (λ (y : ℕ). y ≡ 0) (suc (suc b)) R (rw (over-rows r) h) i g l
 
 -- No part is in an empty row.
-no-parts : (n : ℕ) (c : List Part) (i : ℕ) → n < 2 ^ 64 → ChainOf n c → ((j : ℕ) → i < j → j < 41 → getD (rowsOf 41 c) j 0 ≡ 0) → Every (λ p. p .b ≤ i) c
+no-parts :
+    (n : ℕ) (c : List Part) (i : ℕ)
+    → n < 2 ^ 64
+    → ChainOf n c
+    → ((j : ℕ) → i < j → j < 41 → getD (rowsOf 41 c) j 0 ≡ 0)
+    → Every (λ p. p .b ≤ i) c
 no-parts n c i l h f =
     let low = chain-low n c l h in
     every-with c (λ p k g. at p k g (decLt i (p .b))) low (part-row 41 c low)
@@ -76,7 +87,8 @@ module _ (n : ℕ) (l : n < 2 ^ 64) where
   rows-walk : {R D : Rows} {j : ℕ} → WalkRows R j D → (c : List Part) → ChainOf n c → R ≡ rowsOf 41 c → (d : List Part) × Walk c j d
   unfolding RowMove
   rows-walk (stop-rows {n = x} {z} h) c k e =
-      (c, stop (every-map {P = λ p. p .b ≤ 0} {Q = λ p. p .b ≡ 0} c (λ p g. omega (arith, g)) (no-parts n c 0 l k (λ i p g. ap (λ (R : Rows). getD R i 0) (sym e) ∙ flat-at x z h i p))))
+      let low = no-parts n c 0 l k (λ i p g. ap (λ (R : Rows). getD R i 0) (sym e) ∙ flat-at x z h i p) in
+      (c, stop (every-map {P = λ p. p .b ≤ 0} {Q = λ p. p .b ≡ 0} c (λ p g. omega (arith, g)) low))
   rows-walk (step-rows {k = kind} {b} {c′ = R′} r zs w) c k e =
       let f = move-for n l kind b false c R′ k (rw e at r) in
       let top = no-parts n c (suc b) l k

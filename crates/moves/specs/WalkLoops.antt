@@ -12,7 +12,7 @@ use lib.Seq.{length-take-le}
 use Rattle.moves.specs.Rows.{Rows, amount, Held, Zeros}
 use Rattle.moves.specs.RowLaws.{split-at, set-at, drop-past, all-drop, drop-all, amount-append, row-amount}
 use Rattle.moves.specs.RowMoveLaws.{facts, shape-pos, shape-kind}
-use Rattle.moves.specs.Amounts.{fallKind, fallBy, Told}
+use Rattle.moves.specs.Amounts.{fallKind, fallBy, Tells}
 use Rattle.moves.specs.Walks.{Fits, Phase, done, WalkRows, stop}
 use Rattle.moves.specs.Phases.{fall-next, next-phase, phase-bound, phase-walk, phase-laid}
 use Rattle.moves.specs.ChangeLaws.{fits-rows}
@@ -41,7 +41,7 @@ pub emptying-fall :
     → Emptying x y low up moves
     → x + 3 * y < 2 ^ 64
     → (up ≡ 0 → ⊥)
-    → Told k s (fallKind low up) (fallBy low up)
+    → Tells k s (fallKind low up) (fallBy low up)
     → (0 < s) × (s ≤ up) × Emptying x y (low + 3 * s) (up - s) (moves + 1)
 emptying-fall x y low up moves k s h f p t =
     let n = fall-next low up (h .chain) (omega arith) (omega (arith, h .sums)) in

@@ -1,1 +1,1 @@
-// Moves of chains: theory only.
+// The moves of a chain: theory alone. The code is in the crate bench.

@@ -2,7 +2,8 @@
 use borrow.Author.Needs.{needs}
 use borrow.Author.Tests.{not-true, not-false}
 use Rattle.bench.specs.Sound.{savedIn}
-use Rattle.bench.specs.BenchLaws.{back-little, back-lost, back-refused, back-never, back-done, back-as, told-refused, told-left}
+use Rattle.bench.specs.BenchLaws.{back-little, back-lost, back-refused, back-never, back-done, back-as, told-refused}
+use Rattle.bench.specs.BenchLaws.{told-left}
 use Rattle.bench.proofs.come_back.Statement.{statement}
 use Rattle.bench.proofs.come_back.Tie as tie
 

@@ -40,7 +40,8 @@ returns-4 c =
     let i = m .before .before in
     let s = i .before in
     let r = m .move-rows .ensures .1 (c .if3 .left) in
-    let t = told-refused _ 17 _ (move-stuck _ _ _ _ (s .before .before .if1 .left) (s .is-sound .ensures .0 (not-false _ (i .if2 .left))) (r .1)) in
+    let t =
+    told-refused _ 17 _ (move-stuck _ _ _ _ (s .before .before .if1 .left) (s .is-sound .ensures .0 (not-false _ (i .if2 .left))) (r .1)) in
     (t .0, same-present _ _ (r .0) ∙ t .1)
 
 pub move-chain-spec : {M : Type 1} → statement M

@@ -27,7 +27,8 @@ tell-rows-requires c κs =
     let i = z .before .before in
     let s = i .before in
     let p = s .before .before in
-    tellable _ (p .before .before .before .args .places .now) _ (p .if1 .left) (z .clear-u16 .ensures) (s .is-sound .ensures .0 (not-false _ (i .if3 .left)))
+    let l = p .before .before .before .args .places .now in
+    tellable _ l _ (p .if1 .left) (z .clear-u16 .ensures) (s .is-sound .ensures .0 (not-false _ (i .if3 .left)))
 
 returns-4 : tie.Need-returns-4
 unfolding numberIn stateAt withState

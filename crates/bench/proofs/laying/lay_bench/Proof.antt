@@ -2,7 +2,7 @@
 use mathlib.Core.Path.{ap, _∙_}
 use lib.ListN.{length}
 use borrow.Author.Needs.{needs}
-use Rattle.bench.specs.Laying.{bench-rows, bench-laid, length-opened}
+use Rattle.bench.specs.Opening.{bench-rows, bench-laid, length-opened}
 use Rattle.bench.proofs.laying.lay_bench.Statement.{statement}
 use Rattle.bench.proofs.laying.lay_bench.Tie as tie
 

@@ -5,7 +5,7 @@ use mathlib.Core.Path.{ap, sym, _∙_}
 use lib.ListN.{length}
 use borrow.Author.Needs.{needs}
 use Rattle.lent.specs.LentLaws.{length-zeros}
-use Rattle.bench.specs.Laying.{LaidFrom, Stepped, stepped, none-laid, all-laid, laid-rows}
+use Rattle.bench.specs.Opening.{LaidFrom, Stepped, stepped, none-laid, all-laid, laid-rows}
 use Rattle.bench.proofs.laying.lay_out.Statement.{statement}
 use Rattle.bench.proofs.laying.lay_out.Tie as tie
 

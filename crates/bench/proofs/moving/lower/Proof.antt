@@ -2,7 +2,7 @@
 use native.Mathlib.Omega.{arith}
 use lib.ListN.{length-set}
 use borrow.Author.Needs.{needs}
-use Rattle.bench.specs.RowLaws.{lowered-writes}
+use Rattle.bench.specs.PlanLoops.{lowered-writes}
 use Rattle.bench.proofs.moving.lower.Statement.{statement}
 use Rattle.bench.proofs.moving.lower.Tie as tie
 

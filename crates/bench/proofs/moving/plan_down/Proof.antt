@@ -1,7 +1,7 @@
 -- `plan_down` refuses where the two rows allow no move down or another kind, and where a row above is in its way; nothing else can be.
 use borrow.Author.Needs.{needs}
 use Rattle.moves.specs.PlanLaws.{down-outside, fell-none, fell-other, fell-blocked, fell}
-use Rattle.bench.specs.RowLaws.{above-fits, past-asked, past-power}
+use Rattle.bench.specs.PlanLoops.{above-fits, past-asked, past-power}
 use Rattle.bench.proofs.moving.plan_down.Statement.{statement}
 use Rattle.bench.proofs.moving.plan_down.Tie as tie
 

@@ -1,7 +1,7 @@
 -- `plan_up` refuses where the row allows no move up or another kind, and where a row below is in its way; nothing else can be.
 use borrow.Author.Needs.{needs}
 use Rattle.moves.specs.PlanLaws.{up-outside}
-use Rattle.bench.specs.RowLaws.{rose-none, rose-other, rose-pos, rose-blocked, rose}
+use Rattle.bench.specs.PlanLoops.{rose-none, rose-other, rose-pos, rose-blocked, rose}
 use Rattle.bench.proofs.moving.plan_up.Statement.{statement}
 use Rattle.bench.proofs.moving.plan_up.Tie as tie
 

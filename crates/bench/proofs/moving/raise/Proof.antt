@@ -2,7 +2,7 @@
 use native.Mathlib.Omega.{arith}
 use lib.ListN.{length-set}
 use borrow.Author.Needs.{needs}
-use Rattle.bench.specs.RowLaws.{raised-writes}
+use Rattle.bench.specs.PlanLoops.{raised-writes}
 use Rattle.bench.proofs.moving.raise.Statement.{statement}
 use Rattle.bench.proofs.moving.raise.Tie as tie
 

@@ -8,7 +8,7 @@ use native.Mathlib.Omega.{arith}
 use lib.ListN.{length, getD}
 use borrow.Author.Needs.{needs}
 use Rattle.moves.specs.Changes.{Clear}
-use Rattle.bench.specs.RowLaws.{Power, power-pos, mask}
+use Rattle.bench.specs.PlanLoops.{Power, power-pos, mask}
 use Rattle.bench.proofs.rows.is_clear.Statement.{statement}
 use Rattle.bench.proofs.rows.is_clear.Tie as tie
 

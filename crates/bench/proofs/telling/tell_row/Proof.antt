@@ -4,17 +4,8 @@ use Prim.Native.Nat.{_≤_, _<_}
 use native.Mathlib.Omega.{arith}
 use mathlib.Core.Path.{ap}
 use lib.ListN.{length}
-use Rattle.bench.specs.Telling.{
-  rowNumbers,
-  Storing,
-  storing-none,
-  storing-room,
-  store-one,
-  all-stored,
-  Highest,
-  highest,
-  row-stored,
-}
+use Rattle.bench.specs.Telling.{rowNumbers}
+use Rattle.bench.specs.TellingLaws.{Storing, storing-none, storing-room, store-one, all-stored, Highest, highest, row-stored}
 use Rattle.bench.proofs.telling.tell_row.Statement.{statement}
 use Rattle.bench.proofs.telling.tell_row.Tie as tie
 

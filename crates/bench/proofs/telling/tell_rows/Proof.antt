@@ -2,18 +2,8 @@
 -- down.
 use Prim.Native.Nat.{_≤_}
 use native.Mathlib.Omega.{arith}
-use Rattle.bench.specs.Telling.{
-  rowNumbers,
-  numbersBelow,
-  Storing,
-  storing-none,
-  all-stored,
-  row-room,
-  store-row,
-  no-row,
-  tellable-room,
-  told-rows,
-}
+use Rattle.bench.specs.TellingLaws.{numbersBelow, Storing, storing-none, all-stored, row-room, store-row, no-row}
+use Rattle.bench.specs.TellingLaws.{tellable-room, told-rows}
 use Rattle.bench.proofs.telling.tell_rows.Statement.{statement}
 use Rattle.bench.proofs.telling.tell_rows.Tie as tie
 

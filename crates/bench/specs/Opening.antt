@@ -51,7 +51,11 @@ record Added (l : List ℕ) (i : ℕ) (p : Part) (R : Rows) : Type 0 where
   fits : getD R (p .b) 0 + 2 ^ p .a < 2 ^ 64
   makes : set R (p .b) (getD R (p .b) 0 + 2 ^ p .a) ≡ rowsOf 41 (recordParts (drop i l))
 
-added : (l : List ℕ) (n i : ℕ) → Burned l n → i < length l → Added l i (partAt (getD l i 0)) (rowsOf 41 (recordParts (drop (suc i) l)))
+added :
+    (l : List ℕ) (n i : ℕ)
+    → Burned l n
+    → i < length l
+    → Added l i (partAt (getD l i 0)) (rowsOf 41 (recordParts (drop (suc i) l)))
 unfolding recordParts rowsOf InTable
 added l n i h k =
     let x = getD l i 0 in
@@ -176,7 +180,9 @@ module _ (entry ys : List ℕ) (room : 378 ≤ length entry) (z : ys ≡ zeros (
   unfolding opened
   bench-laid n c R e =
       let t = zeros 8 ++ drop 378 entry in
-      let d : drop 41 (putMid 0 378 entry ys) ≡ zeros 328 ++ (0 ∷ t) = rw fresh (drop-at (zeros 41) (zeros 328 ++ (0 ∷ t)) 41 (length-zeros 41)) in
-      let m : length (rowsOf 41 c ++ zeros 328) ≡ 369 = omega (arith, length-append (rowsOf 41 c) (zeros 328), length-rows 41 c, length-zeros 328) in
+      let d : drop 41 (putMid 0 378 entry ys) ≡ zeros 328 ++ (0 ∷ t) =
+      rw fresh (drop-at (zeros 41) (zeros 328 ++ (0 ∷ t)) 41 (length-zeros 41)) in
+      let m : length (rowsOf 41 c ++ zeros 328) ≡ 369 =
+      omega (arith, length-append (rowsOf 41 c) (zeros 328), length-rows 41 c, length-zeros 328) in
       rw (e, d, ← append-assoc (rowsOf 41 c) (zeros 328) (0 ∷ t))
       (set-seam (rowsOf 41 c ++ zeros 328) 0 n t 369 m ∙ append-assoc (rowsOf 41 c) (zeros 328) (n ∷ t))

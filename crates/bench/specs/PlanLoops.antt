@@ -14,7 +14,7 @@ use lib.ListN.{getD, length, set}
 use lib.Pow.{pow-pos}
 use Rattle.moves.specs.Rows.{Rows, Held}
 use Rattle.moves.specs.Phases.{next-at}
-use Rattle.moves.specs.Amounts.{Told, lowBit, riseKind, riseBy, fallKind, fallBy}
+use Rattle.moves.specs.Amounts.{Tells, lowBit, riseKind, riseBy, fallKind, fallBy}
 use Rattle.moves.specs.AmountLaws.{fall-complete}
 use Rattle.moves.specs.BitLaws.{low-exists}
 use Rattle.moves.specs.Changes.{raised, lowered, Free, pastOf}
@@ -49,7 +49,7 @@ lowered-writes b s R = rw (add-one b)
 
 -- ---- up: k and s as `rise` told them
 
-module _ (b : ℕ) (R : Rows) (h : Held R) (l : b < 40) (k s : ℕ) (t : Told k s (riseKind (getD R b 0)) (riseBy (getD R b 0))) where
+module _ (b : ℕ) (R : Rows) (h : Held R) (l : b < 40) (k s : ℕ) (t : Tells k s (riseKind (getD R b 0)) (riseBy (getD R b 0))) where
   some : (k ≡ 0 → ⊥) → 0 < riseKind (getD R b 0)
   some z = omega (arith, t .kinds)
 
@@ -104,7 +104,7 @@ module _ (b : ℕ) (R : Rows) (h : Held R) (l : b < 40) where
           (suc (r .m), ap₂ (λ (i j : ℕ). pastOf i j) q₁ q₂ ∙ v)
       go (no g) = let z : fallKind x y ≡ 0 = rw (eq-eqb y 0 (omega arith)) in absurd (omega arith)
 
-  module _ (k s : ℕ) (t : Told k s (fallKind x (getD R (b + 1) 0)) (fallBy x (getD R (b + 1) 0))) (z : k ≡ 0 → ⊥) where
+  module _ (k s : ℕ) (t : Tells k s (fallKind x (getD R (b + 1) 0)) (fallBy x (getD R (b + 1) 0))) (z : k ≡ 0 → ⊥) where
     -- What `past` asks.
     pub past-asked : (kind : ℕ) → k ≡ kind → (pastOf kind s < 2 ^ 64) × (0 < s) × ((0 < kind) × (kind ≤ 2))
     past-asked kind e =
@@ -114,7 +114,7 @@ module _ (b : ℕ) (R : Rows) (h : Held R) (l : b < 40) where
     -- What `past` makes is a power of two.
     pub past-power : (kind p : ℕ) → k ≡ kind → p ≡ pastOf kind s → Power p
     past-power kind p e q =
-        let w : Told k s (fallKind x y) (fallBy x y) = rw (add-one b) at t in
+        let w : Tells k s (fallKind x y) (fallBy x y) = rw (add-one b) at t in
         let g : 0 < fallKind x y = omega (arith, w .kinds) in
         let i : kind ≡ fallKind x y = sym e ∙ w .kinds in
         rw (q, i, w .amounts g) (fall-power g)
