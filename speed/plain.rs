@@ -236,19 +236,33 @@ fn best_word(ts: &Tables, q: &Asked, t: &Table) -> Vec<u8> {
     }
 }
 
-pub fn best(ts: &Tables, q: &Asked, t: &mut Table) -> Result<Chain, u8> {
+/// The word of the best chain, and its price.
+fn chosen_word(ts: &Tables, q: &Asked, t: &mut Table) -> Result<(Vec<u8>, u64), u8> {
     if q.n == 0 {
-        return Ok(Chain { n: 0, position: 0, numbers: Vec::new(), price: 0 });
+        return Ok((Vec::new(), 0));
     }
     fill_keys(ts, q, t);
     let key = t[0];
     if key >= NONE || key >> 32 > q.parts {
         return Err(5);
     }
-    let word = best_word(ts, q, t);
-    fill_counts(ts, q.n, t);
-    let position = rank(ts, q.n, &word, t);
-    Ok(Chain { n: q.n, position, numbers: numbers(ts, &word), price: key % (1 << 32) })
+    Ok((best_word(ts, q, t), key % (1 << 32)))
+}
+
+/// Choosing alone: no position is worked out.
+pub fn choose(ts: &Tables, q: &Asked, t: &mut Table) -> Result<Chain, u8> {
+    let (word, price) = chosen_word(ts, q, t)?;
+    Ok(Chain { n: q.n, position: 0, numbers: numbers(ts, &word), price })
+}
+
+pub fn best(ts: &Tables, q: &Asked, t: &mut Table) -> Result<Chain, u8> {
+    let (word, price) = chosen_word(ts, q, t)?;
+    let mut position = 0;
+    if !word.is_empty() {
+        fill_counts(ts, q.n, t);
+        position = rank(ts, q.n, &word, t);
+    }
+    Ok(Chain { n: q.n, position, numbers: numbers(ts, &word), price })
 }
 
 fn good(word: &[u8]) -> bool {

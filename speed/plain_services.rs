@@ -1,5 +1,5 @@
 //! The services in plain Rust on the same numbers as the proved ones: `plain_services SERVICE TIMES` prints a sum over all answers.
-//! SERVICE: 1 count, 2 best chain, 3 chain at a position.
+//! SERVICE: 1 count, 2 best chain, 3 chain at a position, 4 choosing.
 mod plain;
 
 /// The next number of the sequence (xorshift), the same as in crates/speed_services.
@@ -69,7 +69,8 @@ fn main() {
                 s2: (x >> 32) % 65536,
                 s3: x >> 48,
             };
-            plain::best(&ts, &q, &mut t).map_or(0, |c| digest(&c))
+            let found = if service == 2 { plain::best(&ts, &q, &mut t) } else { plain::choose(&ts, &q, &mut t) };
+            found.map_or(0, |c| digest(&c))
         };
         sum = sum.wrapping_add(answer);
         t.fill(0);

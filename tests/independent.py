@@ -1397,7 +1397,7 @@ def position_line(n, position):
     assert sum_of(chain) == n and word_of(chain) == word and position_of(word) == position
     after = parts_line(chain_of(word_at(n, position + 1))) if position + 1 < count(n) else "11"
     letters = [int(l) for l in word]
-    return f"{n} {position} {parts_line(chain)} {len(word)} {digest_64(letters)} = = {after} "
+    return f"{n} {position} {parts_line(chain)} {len(word)} {digest_64(letters)} = = = {after} "
 
 
 def ends_line(letters):
@@ -1417,13 +1417,13 @@ def ends_line(letters):
 
 
 def record_line(numbers):
-    """Reading a record, asked whether it is 0 at position 0."""
+    """Reading a record, asked whether it is 0 at position 0, and placing it, asked whether it is at position 0."""
     refusal = refusal_of_record(numbers)
     if refusal:
-        return f"{refusal} "
+        return f"{refusal} {refusal} "
     chain = [TABLE[i] for i in numbers]
-    found = (sum_of(chain), position_of(word_of(chain)))
-    return "= " if found == (0, 0) else "%d %d " % found
+    n, position = sum_of(chain), position_of(word_of(chain))
+    return ("= " if (n, position) == (0, 0) else f"{n} {position} ") + ("= " if position == 0 else f"{position} ")
 
 
 def shifts(times):
@@ -1463,9 +1463,9 @@ def test_ranking():
             yield position_line(n, position)
     for _ in SIZES:
         yield from refused_lines()
-    # too small a scratch: three services, then the record; too few places with two sizes of the scratch: three services
+    # too small a scratch: three services, then the record, read and placed; too few places with two sizes of the scratch: three services
     yield "1 1 1 "
-    yield "1"
+    yield "1 1 "
     yield "1 1 1 "
     yield "1 1 1 "
 
@@ -1516,12 +1516,19 @@ def around_line(n, i, free, prices):
     return text
 
 
-def left_line(n, limits, size, places):
-    """The answer, then how far zeros and then what was there before reach: in the scratch, and in the places behind the parts."""
-    if size < SCRATCH or places < 64:
-        return f"1 0 {size} 0 {places}"
+def left_lines(n, limits, size, places):
+    """The answer, then how far zeros and then what was there before reach: in the scratch, and in the places behind the parts. Then the
+    same of choosing, which tells no position, and of placing, which tells nothing else and is lent no places."""
     found = best_twice(n, limits, PRICES[0])
-    return f"5 {SCRATCH} {size} 0 {places}" if found is None else f"{told(found)} {SCRATCH} {size} 64 {places}"
+    if size < SCRATCH or places < 64:
+        refused = f"1 0 {size} 0 {places}"
+    elif found is None:
+        refused = f"5 {SCRATCH} {size} 0 {places}"
+    else:
+        position, chosen = told(found).split(" ", 1)
+        left = f"{SCRATCH} {size} 64 {places}"
+        return [f"{position} {chosen} {left}", f"{chosen} {left} {position} {SCRATCH} {size}"]
+    return [refused, refused]
 
 
 EXAMPLES = [(19, (2, 63, 40)), (5, (1, 63, 40)), (29, FREE), (0, (0, 0, 0))]
@@ -1536,19 +1543,19 @@ def test_best():
             line = "5" if found is None else told((found[2], found[0], found[1], found[3]))
             again = best_twice(n, limits, prices)
             assert line == ("5" if again is None else told(again))
-            yield line
+            yield line + " ="
         grown.forget()
     for i, n in enumerate(shifts(1000)):
         free = best_twice(n, FREE, PRICES[i % 6])
-        yield told(free)
+        yield told(free) + " ="
         yield around_line(n, i, free, PRICES[i % 6])
         grown.forget()
     for size in SIZES:
         for n, limits in [*itertools.product(EDGES, EDGE_LIMITS), *EXAMPLES]:
-            yield left_line(n, limits, size, 66)
+            yield from left_lines(n, limits, size, 66)
     for size, places in (SHORT, 66), (SCRATCH, 63), (5248, 63):
         for n, limits in EXAMPLES:
-            yield left_line(n, limits, size, places)
+            yield from left_lines(n, limits, size, places)
 
 
 SPECIAL = [65535, 65536, 10**6, 2**32 - 1, 2**32, 10**18, 3**19 - 1, 3**19, 3**19 + 1, 2**30 * 3**19, 2**62 - 1, 2**62]

@@ -1,9 +1,9 @@
 /* Double-base chains from C and C++.
  *
  * A chain writes a number as a sum of parts 2^a * 3^b, each a proper multiple of the next. The functions count the chains of a
- * number, find its best chain, run a chain on a residue, read and write tree words, move a chain on a bench, and reply to a line of
- * hexadecimal. Each is proved to answer and to leave behind exactly what its contract in crates/meltsjuk/src/lib.rt says, for every
- * argument.
+ * number, find its best chain, tell the position of a chain, run a chain on a residue, read and write tree words, move a chain on a
+ * bench, and reply to a line of hexadecimal. Each is proved to answer and to leave behind exactly what its contract in
+ * crates/meltsjuk/src/lib.rt says, for every argument.
  * `rt staticlib meltsjuk` writes the archive target/staticlib/libmeltsjuk.a, for x86-64 Linux:
  *
  *     cc -I bindings/c program.c target/staticlib/libmeltsjuk.a
@@ -92,6 +92,25 @@ uint8_t meltsjuk_count(uint64_t n, uint64_t *scratch, size_t scratch_length, uin
 uint8_t meltsjuk_best(uint64_t n, uint8_t parts_limit, uint8_t a_limit, uint8_t b_limit, uint16_t d, uint16_t t, uint16_t s2,
                       uint16_t s3, uint64_t *scratch, size_t scratch_length, uint16_t *places, size_t places_length,
                       uint64_t *position, uint64_t *k, uint64_t *price);
+
+/* Choosing: the chain that meltsjuk_best finds, without its position. It takes some two thirds of the time of meltsjuk_best.
+ *
+ * Lent: as for meltsjuk_best, but for the position.
+ * Answers MELTSJUK_SERVED with the number of parts and the price in *k and *price, and the part numbers in the places, as for
+ * meltsjuk_best. Answers MELTSJUK_LITTLE_LENT or MELTSJUK_NONE_FITS otherwise, and the places and the two numbers are as they were. */
+uint8_t meltsjuk_choose(uint64_t n, uint8_t parts_limit, uint8_t a_limit, uint8_t b_limit, uint16_t d, uint16_t t, uint16_t s2,
+                        uint16_t s3, uint64_t *scratch, size_t scratch_length, uint16_t *places, size_t places_length,
+                        uint64_t *k, uint64_t *price);
+
+/* Placing: the position of a chain in the list of n's chains, where n is the sum of its parts. After meltsjuk_choose, the first *k
+ * places are such a chain, and this is the position that meltsjuk_best tells.
+ *
+ * Lent: the chain's part numbers, largest part first, and where there are none the length is 0 and the pointer is not null; the
+ * scratch, MELTSJUK_SCRATCH numbers or more; one number for the position.
+ * Answers MELTSJUK_SERVED with the position in *position. Otherwise answers the first of these that holds, and *position is as it
+ * was: MELTSJUK_LITTLE_LENT, MELTSJUK_NO_PART, MELTSJUK_NO_CHAIN, MELTSJUK_LARGE_SUM. */
+uint8_t meltsjuk_place(const uint16_t *numbers, size_t numbers_length, uint64_t *scratch, size_t scratch_length,
+                       uint64_t *position);
 
 /* A chain run on x modulo m. A residue follows the chain's path back from the largest part. It begins as 0, is doubled or tripled
  * at each step, and x is added at each part. It ends as n * x modulo m, where n is the sum of the parts. The empty chain gives 0.

@@ -1,9 +1,10 @@
 /* The library from C, for tests/exports.
  *
  * Without an argument: the reply to each line of standard input, a line each, as the program `intake` writes them.
- * With the argument `calls`: the same for lines of kinds 01, 02, 07, 08 and 09 of the right length, by the calls for the count, the
- * best chain, the run of a chain and the two for tree words, whose answers are written here as replies. The calls take and tell
- * chains without a and b of the largest part. So these are passed over in a line, and for a reply they are looked up.
+ * With the argument `calls`: the same for lines of kinds 01, 02, 04, 07, 08 and 09 of the right length, by the calls for the count,
+ * the best chain, choosing and placing, the run of a chain and the two for tree words, whose answers are written here as replies. The
+ * calls take and tell chains without a and b of the largest part. So these are passed over in a line, and for a reply they are looked
+ * up. For a line of kind 02 choosing and placing must tell what the best chain tells.
  *
  * Every call is made on a thread with a stack of MELTSJUK_STACK bytes. The page below the stack must not be touched: a call that
  * needs more stack ends the program by a signal.
@@ -219,6 +220,14 @@ static void *too_little(void *unused)
     must(meltsjuk_best(19, 64, 63, 40, 4, 7, 8, 9, exact.numbers, exact.length, places, MELTSJUK_PLACES - 1, &position, &k, &price)
              == MELTSJUK_LITTLE_LENT,
          "a best chain with few places");
+    must(meltsjuk_choose(19, 64, 63, 40, 4, 7, 8, 9, shorter.numbers, shorter.length, places, MELTSJUK_PLACES, &k, &price)
+             == MELTSJUK_LITTLE_LENT,
+         "a chain chosen with a short scratch");
+    must(meltsjuk_choose(19, 64, 63, 40, 4, 7, 8, 9, exact.numbers, exact.length, places, MELTSJUK_PLACES - 1, &k, &price)
+             == MELTSJUK_LITTLE_LENT,
+         "a chain chosen with few places");
+    must(meltsjuk_place(parts, 2, shorter.numbers, shorter.length, &position) == MELTSJUK_LITTLE_LENT,
+         "a chain placed with a short scratch");
     must(meltsjuk_read_tree(word, 4, shorter.numbers, shorter.length, places, MELTSJUK_PLACES, &n, &position, &k)
              == MELTSJUK_LITTLE_LENT,
          "a tree word read with a short scratch");
@@ -262,6 +271,63 @@ static void *served(void *scratch)
     must(position == 3 && k == 2 && price == 27 && are_parts(places, parts, 2, 0),
          "what a best chain leaves"); /* the addition costs s3 = 9 */
     must(is_left(s, MELTSJUK_SCRATCH), "what a best chain leaves in the scratch");
+    return NULL;
+}
+
+/* Choosing and placing, served with this scratch. The places may be more than are asked for. */
+static void *served_apart(void *scratch)
+{
+    const struct scratch s = *(const struct scratch *)scratch;
+    const uint16_t parts[2] = {9, 0}; /* 18 + 1 */
+    uint64_t position = 7, k = 7, price = 7;
+
+    set_bits(s);
+    must(meltsjuk_choose(19, 64, 63, 40, 4, 7, 8, 9, s.numbers, s.length, more_places, MELTSJUK_PLACES + LATER, &k, &price)
+             == MELTSJUK_SERVED,
+         "the chain chosen for 19");
+    must(k == 2 && price == 27 && are_parts(more_places, parts, 2, LATER) && is_left(s, MELTSJUK_SCRATCH), "what choosing leaves");
+    set_bits(s);
+    must(meltsjuk_place(parts, 2, s.numbers, s.length, &position) == MELTSJUK_SERVED && position == 3, "the position of 18 + 1");
+    must(is_left(s, MELTSJUK_SCRATCH), "what placing leaves in the scratch");
+    set_bits(s);
+    must(meltsjuk_place(parts, 0, s.numbers, s.length, &position) == MELTSJUK_SERVED && position == 0, "the empty chain's position");
+    must(is_left(s, MELTSJUK_SCRATCH), "what placing the empty chain leaves in the scratch");
+    return NULL;
+}
+
+/* A record that is not placed, with this scratch: it is zeroed, and the position is as it was. */
+static void place_refused(struct scratch s, const uint16_t *parts, size_t k, uint8_t refusal, const char *what)
+{
+    uint64_t position = 7;
+
+    set_bits(s);
+    must(meltsjuk_place(parts, k, s.numbers, s.length, &position) == refusal, what);
+    must(is_left(s, MELTSJUK_SCRATCH) && position == 7, "what is left where a record is not placed");
+}
+
+/* What choosing and placing refuse, with this scratch: each record has the faults of the later ones too. */
+static void *refused_apart(void *scratch)
+{
+    const struct scratch s = *(const struct scratch *)scratch;
+    const uint16_t none[3] = {PARTS - 1, PARTS - 1, PARTS}, same[2] = {PARTS - 1, PARTS - 1};
+    const uint16_t large[2] = {PARTS - 1, 0}; /* the largest part and 1 sum to less than 2^64 */
+    uint16_t twos[2] = {0, 0};
+    uint64_t k = 7, price = 7;
+
+    for (uint16_t i = 0; i < PARTS; i++) { /* 3 * 2^62 and 3 * 2^61 */
+        if (parts_by_number[i].value == (uint64_t)3 << 62)
+            twos[0] = i;
+        if (parts_by_number[i].value == (uint64_t)3 << 61)
+            twos[1] = i;
+    }
+    set_bits(s);
+    must(meltsjuk_choose(5, 1, 63, 40, 4, 7, 8, 9, s.numbers, s.length, places, MELTSJUK_PLACES, &k, &price) == MELTSJUK_NONE_FITS,
+         "a chain of one part chosen for 5");
+    must(is_left(s, MELTSJUK_SCRATCH) && are_untouched() && k == 7 && price == 7, "what is left where none is chosen");
+    place_refused(s, none, 3, MELTSJUK_NO_PART, "a number that no part has, placed");
+    place_refused(s, same, 2, MELTSJUK_NO_CHAIN, "a part twice, placed");
+    place_refused(s, twos, 2, MELTSJUK_LARGE_SUM, "3 * 2^62 and 3 * 2^61, placed");
+    must(meltsjuk_place(large, 2, s.numbers, s.length, &k) == MELTSJUK_SERVED, "the largest part and 1, placed");
     return NULL;
 }
 
@@ -639,6 +705,26 @@ static void *call_best(void *request)
     return NULL;
 }
 
+static void *call_choose(void *request)
+{
+    struct request *r = request;
+
+    r->status = meltsjuk_choose(field(r->line, 1, 8), (uint8_t)field(r->line, 9, 1), (uint8_t)field(r->line, 10, 1),
+                                (uint8_t)field(r->line, 11, 1), (uint16_t)field(r->line, 12, 2), (uint16_t)field(r->line, 14, 2),
+                                (uint16_t)field(r->line, 16, 2), (uint16_t)field(r->line, 18, 2), r->scratch.numbers,
+                                r->scratch.length, places, MELTSJUK_PLACES, &r->k, &r->price);
+    return NULL;
+}
+
+/* The part numbers that were taken from the line or left in the places. */
+static void *call_place(void *request)
+{
+    struct request *r = request;
+
+    r->status = meltsjuk_place(numbers, r->items, r->scratch.numbers, r->scratch.length, &r->position);
+    return NULL;
+}
+
 static void *call_run(void *request)
 {
     struct request *r = request;
@@ -693,6 +779,27 @@ static void print_chain(uint64_t n, const struct request *r)
         printf("%04X", places[i]);
 }
 
+/* Choosing, and placing what it left in the places, tell what the best chain told, and leave the same in the places. */
+static void must_be_chosen(const struct request *best)
+{
+    struct request r = *best;
+    uint16_t before[MELTSJUK_PLACES];
+
+    memcpy(before, places, sizeof before);
+    r.position = r.k = r.price = UINT64_MAX;
+    with_scratch(call_choose, &r);
+    must(r.status == best->status && memcmp(before, places, sizeof before) == 0, "another chain is chosen than is best");
+    if (r.status != MELTSJUK_SERVED) {
+        must((r.k & r.price) == UINT64_MAX, "numbers written although none is chosen");
+        return;
+    }
+    r.items = (size_t)r.k;
+    memcpy(numbers, places, r.items * sizeof *numbers);
+    with_scratch(call_place, &r);
+    must(r.status == MELTSJUK_SERVED && r.position == best->position && r.k == best->k && r.price == best->price,
+         "choosing and placing tell something else than the best chain");
+}
+
 static void reply_by_best(struct request *r)
 {
     with_scratch(call_best, r);
@@ -702,6 +809,7 @@ static void reply_by_best(struct request *r)
         printf("%08" PRIX64, r->price);
     }
     printf("\n");
+    must_be_chosen(r);
 }
 
 /* Takes the part numbers of a line; byte `at` says how many they are, and a and b come between. */
@@ -710,6 +818,28 @@ static void take_numbers(struct request *r, size_t at)
     r->items = (size_t)field(r->line, at, 1);
     for (size_t i = 0; i < r->items; i++)
         numbers[i] = (uint16_t)field(r->line, at + 3 + 2 * i, 2);
+}
+
+/* A record by placing: the number that its parts sum to is summed here. */
+static void reply_by_place(struct request *r)
+{
+    uint64_t n = 0;
+
+    take_numbers(r, 1);
+    r->position = UINT64_MAX;
+    with_scratch(call_place, r);
+    printf("%02X", r->status);
+    if (r->status == MELTSJUK_SERVED) {
+        for (size_t i = 0; i < r->items; i++) {
+            places[i] = numbers[i];
+            n += parts_by_number[numbers[i]].value;
+        }
+        r->k = r->items;
+        print_chain(n, r);
+    } else {
+        must(r->position == UINT64_MAX, "a position written although the record was refused");
+    }
+    printf("\n");
 }
 
 static void reply_by_run(struct request *r)
@@ -766,6 +896,8 @@ static void reply_by_call(struct request *r)
         reply_by_count(r);
     else if (r->length == 40 && strncmp(r->line, "02", 2) == 0)
         reply_by_best(r);
+    else if (r->length >= 8 && r->length == 8 + 4 * field(r->line, 1, 1) && strncmp(r->line, "04", 2) == 0)
+        reply_by_place(r);
     else if (r->length >= 40 && r->length == 40 + 4 * field(r->line, 17, 1) && strncmp(r->line, "07", 2) == 0)
         reply_by_run(r);
     else if (r->length >= 4 && r->length == 4 + 2 * field(r->line, 1, 1) && strncmp(r->line, "08", 2) == 0)
@@ -790,8 +922,10 @@ static void with_each_scratch(void)
 
     for (size_t i = 0; i < 3; i++) {
         on_small_stack(served, &each[i]);
+        on_small_stack(served_apart, &each[i]);
         on_small_stack(served_trees, &each[i]);
         on_small_stack(refused, &each[i]);
+        on_small_stack(refused_apart, &each[i]);
         on_small_stack(refused_trees, &each[i]);
     }
 }

@@ -1,9 +1,10 @@
 //! The library from Rust, for tests/exports.
 //!
 //! Without an argument: the reply to each line of standard input, a line each, as the program `intake` writes them.
-//! With the argument `calls`: the same for lines of kinds 01, 02, 07, 08 and 09 of the right length, by the calls for the count,
-//! the best chain, the run of a chain and the two for tree words, whose answers are written here as replies. The calls take and tell
-//! chains without a and b of the largest part. So these are passed over in a line, and for a reply they are looked up.
+//! With the argument `calls`: the same for lines of kinds 01, 02, 04, 07, 08 and 09 of the right length, by the calls for the count,
+//! the best chain, choosing and placing, the run of a chain and the two for tree words, whose answers are written here as replies.
+//! The calls take and tell chains without a and b of the largest part. So these are passed over in a line, and for a reply they are
+//! looked up. For a line of kind 02 choosing and placing must tell what the best chain tells.
 use meltsjuk::{Limits, Prices, Terminal};
 use std::io::{self, BufRead, Write};
 use std::sync::OnceLock;
@@ -24,10 +25,31 @@ fn reply_by_best(terminal: &mut Terminal, line: &[u8]) -> String {
     let pair = |at| field(line, at, 2) as u16;
     let limits = Limits { parts: byte(9), doublings: byte(10), triplings: byte(11) };
     let prices = Prices { doubling: pair(12), tripling: pair(14), addition_2: pair(16), addition_3: pair(18) };
-    match terminal.best(n, limits, prices) {
+    let best = terminal.best(n, limits, prices);
+    let chosen = terminal.choose(n, limits, prices);
+    let placed = chosen.map(|c| (terminal.place(&c.parts).expect("a chain"), c.parts, c.price));
+    assert_eq!(best.as_ref().map(|b| (b.position, b.parts.clone(), b.price)), placed, "choosing and placing tell something else");
+    match best {
         None => "05".to_string(),
         Some(best) => format!("00{n:016X}{:016X}{}{:08X}", best.position, record_of(&best.parts), best.price),
     }
+}
+
+/// A record by placing: the number that its parts sum to is summed here.
+fn reply_by_place(terminal: &mut Terminal, line: &[u8]) -> String {
+    let parts = parts_in(line, 1);
+    match terminal.place(&parts) {
+        Ok(position) => {
+            let n: u64 = parts.iter().map(|&number| value_of(number)).sum();
+            format!("00{n:016X}{position:016X}{}", record_of(&parts))
+        }
+        Err(refusal) => format!("{:02X}", refusal as u8),
+    }
+}
+
+fn value_of(number: u16) -> u64 {
+    let (a, b) = exponents()[number as usize];
+    3u64.pow(b) << a
 }
 
 /// a and b of each part 2^a × 3^b, by part number.
@@ -83,6 +105,7 @@ fn reply_by_call(terminal: &mut Terminal, line: &[u8]) -> String {
     match (line.len(), &line[..2]) {
         (18, b"01") => reply_by_count(terminal, line),
         (40, b"02") => reply_by_best(terminal, line),
+        (8.., b"04") if line.len() == 8 + 4 * field(line, 1, 1) as usize => reply_by_place(terminal, line),
         (40.., b"07") if line.len() == 40 + 4 * field(line, 17, 1) as usize => reply_by_run(line),
         (4.., b"08") if line.len() == 4 + 2 * field(line, 1, 1) as usize => reply_by_read_tree(terminal, line),
         (8.., b"09") if line.len() == 8 + 4 * field(line, 1, 1) as usize => reply_by_write_tree(line),

@@ -1,10 +1,11 @@
 //! Double-base chains from Rust.
 //!
 //! A chain writes a number as a sum of parts 2^a × 3^b, each a proper multiple of the next: 19 = 18 + 1. A [`Terminal`] counts the
-//! chains of a number, finds its best chain, reads tree words, and replies to lines of hexadecimal; [`run`] runs a chain on a
-//! residue, and [`write_tree`] writes a chain's tree word. A [`Bench`] moves a chain by hand. The library behind them is proved to
-//! meet its contracts in crates/meltsjuk/src/lib.rt for every argument; this package lends it the memory that it asks for. For
-//! x86-64 Linux. A thread of Rust's usual size has stack enough; bindings/c/meltsjuk.h says how much a call needs.
+//! chains of a number, finds its best chain, tells the position of a chain, reads tree words, and replies to lines of hexadecimal;
+//! [`run`] runs a chain on a residue, and [`write_tree`] writes a chain's tree word. A [`Bench`] moves a chain by hand. The library
+//! behind them is proved to meet its contracts in crates/meltsjuk/src/lib.rt for every argument; this package lends it the memory
+//! that it asks for. For x86-64 Linux. A thread of Rust's usual size has stack enough; bindings/c/meltsjuk.h says how much a call
+//! needs.
 //!
 //! ```
 //! let mut terminal = meltsjuk::Terminal::new();
@@ -52,6 +53,31 @@ mod archive {
             position: *mut u64,
             k: *mut u64,
             price: *mut u64,
+        ) -> u8;
+
+        pub fn meltsjuk_choose(
+            n: u64,
+            parts_limit: u8,
+            a_limit: u8,
+            b_limit: u8,
+            d: u16,
+            t: u16,
+            s2: u16,
+            s3: u16,
+            scratch: *mut u64,
+            scratch_length: usize,
+            places: *mut u16,
+            places_length: usize,
+            k: *mut u64,
+            price: *mut u64,
+        ) -> u8;
+
+        pub fn meltsjuk_place(
+            numbers: *const u16,
+            numbers_length: usize,
+            scratch: *mut u64,
+            scratch_length: usize,
+            position: *mut u64,
         ) -> u8;
 
         pub fn meltsjuk_run(numbers: *const u16, numbers_length: usize, m: u64, x: u64, residue: *mut u64) -> u8;
@@ -141,6 +167,15 @@ pub struct Best {
     pub price: u64,
 }
 
+/// The best chain of a number, as [`Terminal::choose`] tells it: without its position.
+#[derive(Clone, Debug, PartialEq, Eq)]
+pub struct Chosen {
+    /// Its part numbers, largest part first: indices in the table of all parts below 2^64, ascending from number 0.
+    pub parts: Vec<u16>,
+    /// Its price.
+    pub price: u64,
+}
+
 /// A chain, with the number that it is a chain of and its place in that number's list.
 #[derive(Clone, Debug, PartialEq, Eq)]
 pub struct Chain {
@@ -152,7 +187,7 @@ pub struct Chain {
     pub parts: Vec<u16>,
 }
 
-/// Why a chain is not run, a tree word not read or written, or a bench not opened or changed. `refusal as u8` is its number. Lines
+/// Why a chain is not placed or run, a tree word not read or written, or a bench not opened or changed. `refusal as u8` is its number. Lines
 /// have further refusals, which [`Terminal::reply`] gives as digits.
 #[derive(Clone, Copy, Debug, PartialEq, Eq)]
 pub enum Refusal {
@@ -521,6 +556,80 @@ impl Terminal {
             0 => Some(Best { parts: self.places[..k as usize].to_vec(), position, price }),
             5 => None,
             _ => panic!("a scratch of {SCRATCH} numbers and {PLACES} places are enough"),
+        }
+    }
+
+    /// The chain that [`Terminal::best`] finds, without its position, which takes some two thirds of the time. [`Terminal::place`]
+    /// tells the position.
+    ///
+    /// ```
+    /// use meltsjuk::{Limits, Prices, Terminal};
+    ///
+    /// let prices = Prices { doubling: 4, tripling: 7, addition_2: 9, addition_3: 9 };
+    /// let mut terminal = Terminal::new();
+    /// let chosen = terminal.choose(19, Limits::default(), prices).unwrap();
+    /// assert_eq!((&chosen.parts[..], chosen.price), (&[9, 0][..], 27)); // 18 + 1
+    /// assert_eq!(terminal.place(&chosen.parts), Ok(3));
+    /// assert_eq!(terminal.choose(5, Limits { parts: 1, ..Limits::default() }, prices), None);
+    /// ```
+    pub fn choose(&mut self, n: u64, limits: Limits, prices: Prices) -> Option<Chosen> {
+        let (mut k, mut price) = (0, 0);
+        // Sound: the scratch and the places are of the lengths told, and the two numbers are locals.
+        let status = unsafe {
+            archive::meltsjuk_choose(
+                n,
+                limits.parts,
+                limits.doublings,
+                limits.triplings,
+                prices.doubling,
+                prices.tripling,
+                prices.addition_2,
+                prices.addition_3,
+                self.scratch.as_mut_ptr(),
+                self.scratch.len(),
+                self.places.as_mut_ptr(),
+                self.places.len(),
+                &mut k,
+                &mut price,
+            )
+        };
+        match status {
+            0 => Some(Chosen { parts: self.places[..k as usize].to_vec(), price }),
+            5 => None,
+            _ => panic!("a scratch of {SCRATCH} numbers and {PLACES} places are enough"),
+        }
+    }
+
+    /// The position of a chain in the list of all chains of the number that its parts sum to. The chain is given by its part
+    /// numbers, largest part first.
+    ///
+    /// A part number of 1,344 or more, or more than 64 part numbers, are refused first, with [`Refusal::NoPart`]; then a part that is
+    /// no proper multiple of the next with [`Refusal::NoChain`], and then parts that sum to 2^64 or more with [`Refusal::LargeSum`].
+    ///
+    /// ```
+    /// use meltsjuk::{Refusal, Terminal};
+    ///
+    /// let mut terminal = Terminal::new();
+    /// assert_eq!(terminal.place(&[9, 0]), Ok(3)); // 18 + 1, the last of the four chains of 19
+    /// assert_eq!(terminal.place(&[]), Ok(0)); // the empty chain
+    /// assert_eq!(terminal.place(&[9, 1344]), Err(Refusal::NoPart));
+    /// assert_eq!(terminal.place(&[0, 9]), Err(Refusal::NoChain));
+    /// ```
+    pub fn place(&mut self, parts: &[u16]) -> Result<u64, Refusal> {
+        let mut position = 0;
+        // Sound: the part numbers and the scratch are of the lengths told, and `position` is a local.
+        let status = unsafe {
+            archive::meltsjuk_place(
+                parts.as_ptr(),
+                parts.len(),
+                self.scratch.as_mut_ptr(),
+                self.scratch.len(),
+                &mut position,
+            )
+        };
+        match status {
+            0 => Ok(position),
+            _ => Err(Refusal::of(status)),
         }
     }
 

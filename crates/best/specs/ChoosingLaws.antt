@@ -49,13 +49,12 @@ module _ (n : ℕ) (lim : Limits) (π : Prices) (r : Choice) (h : ChosenBy n lim
 -- ---- the number 0
 
 pub zero-chosen : (n : ℕ) (lim : Limits) (π : Prices) → n ≡ 0 → WordChosen n lim π 0 0 0
-unfolding bits reads weight chainOf chainFrom price listOf
+unfolding bits reads chainOf chainFrom price
 zero-chosen n lim π e =
     record {
       word = [];
       rising = refl;
       marking = refl;
-      member = member-words true n [] .1 (tt, sym e);
       good = tt;
       few = omega arith;
       chain = rw e (best-of-zero lim (price π));
@@ -76,14 +75,11 @@ module _ {n : ℕ} (lim : Limits) (π : Prices) (fits : n < 2 ^ 64) (cheap : Che
   all-fit = price-fits n π fits (cheap .d) (cheap .t) (cheap .s2) (cheap .s3)
 
   -- The best word is one of the list of n: a good word that stands for n.
-  member : (w : Word) → best ≡ some w → List·Memᴰ w (wordsAt true n)
-  member w e =
+  listed : (w : Word) → best ≡ some w → T (reads true w) × (weight w ≡ n)
+  listed w e =
       let r : FirstLeast (inGrid (lim .A) (lim .B) origin) (key (costsOf partWeight π)) (wordsAt true n) w =
       rw e at (best-found (costsOf partWeight π) (lim .A) (lim .B) true origin n) in
-      first-member (inGrid (lim .A) (lim .B) origin) (key (costsOf partWeight π)) r
-
-  listed : (w : Word) → best ≡ some w → T (reads true w) × (weight w ≡ n)
-  listed w e = member-words true n w .0 (member w e)
+      member-words true n w .0 (first-member (inGrid (lim .A) (lim .B) origin) (key (costsOf partWeight π)) r)
 
   -- The least key tells the parts and the price of its chain.
   least-tells : (w : Word) → best ≡ some w
@@ -105,7 +101,7 @@ module _ {n : ℕ} (lim : Limits) (π : Prices) (fits : n < 2 ^ 64) (cheap : Che
 
   word-within : (w : Word) → best ≡ some w → leastOf / partWeight ≤ lim .K
       → WordChosen n lim π (bits rise w) (bits mark w) (leastOf % partWeight)
-  unfolding leastKeyed upTo listOf
+  unfolding leastKeyed upTo
   word-within w e h =
       let t = least-tells w e in
       let m = listed w e in
@@ -113,7 +109,6 @@ module _ {n : ℕ} (lim : Limits) (π : Prices) (fits : n < 2 ^ 64) (cheap : Che
         word = w;
         rising = refl;
         marking = refl;
-        member = member w e;
         good = m .0;
         few = letters-bound 64 w (m .0) (omega arith);
         chain =

@@ -1,8 +1,9 @@
--- What the best chain answers and leaves behind: document 01, 'Services and memory', and refusals 1 and 5; document 02, T-04.
+-- What choosing and the best chain answer: document 01, 'Services and memory', and refusals 1 and 5; document 02, T-04 and T-09.
 --
--- Like the services of ranking it has an outcome, and the answer and what is left in the lent memory follow from that. The cost of a
--- chain is `price π`, where π are the prices that the service is given.
--- Definitions only. That the outcome is the best chain of demand 3 is in Demand3.
+-- Both have one outcome, like the services of ranking, and what is left in the lent memory follows from that. They differ in what
+-- they tell of it. The cost of a chain is `price π`, where π are the prices that the service is given.
+-- Definitions only. That the outcome is the best chain of demand 3 is in Demand3; that choosing and then placing tell what the best
+-- chain tells is in Placing.
 use mathlib.Core.List.{List}
 use mathlib.Core.Option.{Option, none, some}
 use Prim.Native.Nat.{ℕ}
@@ -14,7 +15,9 @@ use Rattle.ranking.specs.Services.{Outcome, refused, gives}
 use Rattle.best.specs.declared.Limits as given
 use Rattle.best.specs.declared.Prices as asked
 use Rattle.best.specs.declared.Chosen.{Chosen}
-use Rattle.best.specs.declared.Chosen.the-variants.{Chain, Refused}
+use Rattle.best.specs.declared.Chosen.the-variants as chosen
+use Rattle.best.specs.declared.Best.{Best}
+use Rattle.best.specs.declared.Best.the-variants as best
 
 -- What the code's structs stand for.
 abbrev pub limitsOf : given.Limits → Limits
@@ -32,7 +35,12 @@ orNone n (some c) = gives n c
 unfoldable pub bestOutcome : ℕ → Limits → (List Part → ℕ) → Outcome
 bestOutcome n lim cost = orNone n (bestChain n lim cost)
 
--- The position, how many parts and the cost, or the refusal.
+-- Choosing tells how many parts and the cost, or the refusal;
 unfoldable pub chosenOf : (List Part → ℕ) → Outcome → Chosen
-chosenOf cost (refused r) = Refused r
-chosenOf cost (gives n c) = Chain (position n c) (length c) (cost c)
+chosenOf cost (refused r) = chosen.Refused r
+chosenOf cost (gives n c) = chosen.Chain (length c) (cost c)
+
+-- the best chain the position too.
+unfoldable pub bestOf : (List Part → ℕ) → Outcome → Best
+bestOf cost (refused r) = best.Refused r
+bestOf cost (gives n c) = best.Chain (position n c) (length c) (cost c)

@@ -1,29 +1,21 @@
--- How the answer of the best chain comes out, case by case.
+-- How the answer of choosing comes out, case by case.
 --
--- In this order: what holds at each return of the best chain; too little is lent; no word; the chosen word, with its chain in the
--- places and its position.
+-- In this order: what holds at each return of choosing; too little is lent; no word; the chosen word, with its chain in the places.
 use mathlib.Core.Path.{_≡_, refl, ap, ap₂, _∙_}
 use mathlib.Core.Bool.{true}
 use mathlib.Core.List.{List, map}
 use mathlib.Core.Option.{none}
-use Prim.Native.Nat.{ℕ, _≤_}
-use native.Mathlib.Omega.{arith}
+use Prim.Native.Nat.{ℕ}
 use borrow.Author.Tests.{le-ltb}
 use lib.ListN.{length}
 use Rattle.chains.specs.Chains.{Part}
 use Rattle.chains.specs.Words.{chainOf}
-use Rattle.chains.specs.Listing.{listOf, countBefore, position}
-use Rattle.chains.specs.RoundTrip.{word-chain-word}
 use Rattle.chains.specs.Best.{Prices, price, Limits, bestChain}
 use Rattle.lent.specs.Lent.{filled, OnlyFirst, scratchSize, littleScratch, scratchLeft, tooLittle, Enough}
 use Rattle.lent.specs.LentLaws.{enough-zeroed, used-left}
 use Rattle.parts.specs.Parts.{partNumber}
 use Rattle.words.specs.Packed.{packedChain, partsLeft}
 use Rattle.words.specs.PackedLaws.{packed-chain}
-use Rattle.counting.specs.Ranked.{PositionTold}
-use Rattle.counting.specs.RankedLaws.{told-before}
-use Rattle.counting.specs.declared.Counted.{Counted}
-use Rattle.counting.specs.declared.Counted.the-variants as counted
 use Rattle.ranking.specs.Services.{Outcome, gives, lent, placesLeft}
 use Rattle.ranking.specs.RoundTrips.{lent-all}
 use Rattle.best.specs.declared.Chosen.{Chosen}
@@ -31,7 +23,7 @@ use Rattle.best.specs.declared.Chosen.the-variants.{Chain, Refused}
 use Rattle.best.specs.Chosen.{orNone, bestOutcome, chosenOf}
 use Rattle.best.specs.Choosing.{WordChosen}
 
--- ---- at a return of the best chain
+-- ---- at a return of choosing
 
 -- The answer r, the places p′ and the scratch s′ are those of an outcome, where s and p were lent.
 abbrev pub Served : (List Part → ℕ) → Outcome → List ℕ → List ℕ → Chosen → List ℕ → List ℕ → Type 0
@@ -44,9 +36,6 @@ module _ (cost : List Part → ℕ) (o : Outcome) (s p : List ℕ) where
   little e = rw e (refl, (refl, refl))
 
 module _ (π : Prices) (n : ℕ) (lim : Limits) {s p : List ℕ} (h : Enough 64 s p) {l : List ℕ} (u : OnlyFirst scratchSize s l) where
-  size : scratchSize ≤ length l
-  size = omega (arith, h .numbers, u .same)
-
   -- ---- no word
 
   pub none-served : {s′ : List ℕ} → bestChain n lim (price π) ≡ none → s′ ≡ scratchLeft (littleScratch l) l
@@ -67,31 +56,16 @@ module _ (π : Prices) (n : ℕ) (lim : Limits) {s p : List ℕ} (h : Enough 64 
     chain-is : packedChain rises marks ≡ chainOf (w .word)
     chain-is = ap₂ packedChain (w .rising) (w .marking) ∙ packed-chain (w .word) (w .good) (w .few)
 
-    -- its part numbers are put in the places,
+    -- and its part numbers are put in the places.
     stands : partsLeft rises marks p ≡ filled 64 (map partNumber (chainOf (w .word))) p
     unfolding partsLeft
     stands = rw (le-ltb (length p) 64 (h .room)) (ap (λ (c : List Part). filled 64 (map partNumber c) p) chain-is)
 
-    -- and it is counted: the scratch is large enough.
-    module _ {r : Counted} (t : PositionTold n rises l r) where
-      counts : r ≡ counted.Count (countBefore (w .word) (listOf n))
-      counts = told-before size (w .word) (w .member) (w .rising) t
-
-      pub not-refused : {x : ℕ} → r ≡ counted.Refused x → ⊥
-      not-refused f = let z : _≡_ {A = ℕ} 0 1 = cc (counts) in omega arith
-
-      placed : {at : ℕ} → r ≡ counted.Count at → at ≡ position n (chainOf (w .word))
-      unfolding position
-      placed {at} f =
-          let c : at ≡ countBefore (w .word) (listOf n) = cc (counts) in
-          c ∙ rw (word-chain-word (w .word) (w .good))
-
-      pub word-served : {at k : ℕ} {p′ s′ : List ℕ} → r ≡ counted.Count at
-          → k ≡ length (packedChain rises marks)
-          → p′ ≡ partsLeft rises marks p
-          → s′ ≡ scratchLeft (littleScratch l) l
-          → Served (price π) (bestOutcome n lim (price π)) s p (Chain at k told) p′ s′
-      unfolding chosenOf placesLeft filled
-      word-served f ek ep es =
-          rw (lent-all s p (bestOutcome n lim (price π)) h, best, enough-zeroed 64 s p h)
-          (cc (placed f, ek, ap length chain-is, w .told), (ep ∙ stands, es ∙ used-left (h .numbers) u))
+    pub word-served : {k : ℕ} {p′ s′ : List ℕ} → k ≡ length (packedChain rises marks)
+        → p′ ≡ partsLeft rises marks p
+        → s′ ≡ scratchLeft (littleScratch l) l
+        → Served (price π) (bestOutcome n lim (price π)) s p (Chain k told) p′ s′
+    unfolding chosenOf placesLeft filled
+    word-served ek ep es =
+        rw (lent-all s p (bestOutcome n lim (price π)) h, best, enough-zeroed 64 s p h)
+        (cc (ek, ap length chain-is, w .told), (ep ∙ stands, es ∙ used-left (h .numbers) u))

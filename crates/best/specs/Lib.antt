@@ -1,5 +1,6 @@
--- The best chain. What a reader must believe: Chosen (what the best chain answers). The theorem on it:
+-- Choosing and the best chain. What a reader must believe: Chosen (what they answer). The theorems on it:
 --   Demand3   the answer and the places are those of the best chain, and 5 comes exactly where none fits
+--   Placing   choosing and then placing tell what the best chain tells
 -- What the contracts of the private functions name; the laws of X are in XLaws:
 --   KeyTable  the least key at a point, what a row of keys holds of it, and the turns of a row
 --   KeyRows   what the calls that fill the rows of keys ask and leave
@@ -16,3 +17,4 @@ pub mod Choosing
 pub mod ChoosingLaws
 pub mod ChosenLaws
 pub mod Demand3
+pub mod Placing

@@ -1,15 +1,16 @@
-// The best chain within limits: the fewest parts, then the lowest price, then the earliest position.
+// The best chain within limits: the fewest parts, then the lowest price, then the earliest position. Choosing it and telling its
+// position are two services; the second is `ranking::place_record`.
 mod choosing;
 mod keys;
 mod walk;
 
 use choosing::Choice;
-use counting::Counted;
+use ranking::Position;
 ghost use mathlib.Core.Path.{_≡_};
 ghost use Rattle.chains.specs.Best.{price};
 ghost use Rattle.lent.specs.Lent.{tooLittle, scratchLeft};
 ghost use Rattle.ranking.specs.Services.{lent, placesLeft};
-ghost use Rattle.best.specs.Chosen.{limitsOf, pricesOf, bestOutcome, chosenOf};
+ghost use Rattle.best.specs.Chosen.{limitsOf, pricesOf, bestOutcome, chosenOf, bestOf};
 
 // The limits on a chain: how many parts, doublings and triplings it may have. Values above 64, 63 and 40 exclude nothing.
 pub struct Limits {
@@ -27,19 +28,25 @@ pub struct Prices {
     pub addition_3: u16,
 }
 
-// The best chain, its parts in the places, or the refusal.
+// The chosen chain, its parts in the places: how many they are and its price; or the refusal.
 pub enum Chosen {
+    Chain { k: u64, price: u64 },
+    Refused(u8),
+}
+
+// The same with the chain's position in the whole list of n.
+pub enum Best {
     Chain { position: u64, k: u64, price: u64 },
     Refused(u8),
 }
 
-// The best chain of n within the limits and by the prices: its position in the whole list of n, its number of parts and its price;
-// the part numbers in the places. The number 0 has the empty chain, within any limits.
+// Choosing: the best chain of n within the limits and by the prices. It tells the number of its parts and its price; the part
+// numbers are in the places. The number 0 has the empty chain, within any limits.
 //
 // Lent a scratch of at least `lent::SCRATCH` numbers and 64 places or more, with any contents. Refuses with 1 where less is lent,
 // and nothing is touched; with 5 where no chain is within the limits, and the places are as they were. Otherwise the places behind
 // the part numbers are zero up to 64. With every answer but 1 the first `lent::SCRATCH` numbers of the scratch are zero.
-pub fn best_chain(
+pub fn choose_chain(
     n: u64,
     limits: Limits,
     prices: Prices,
@@ -68,15 +75,44 @@ pub fn best_chain(
             marks,
             price,
         } => {
+            lent::clear_scratch(scratch);
             let k = words::put_parts(rises, marks, places);
-            let Counted::Count(position) = counting::position_of(n, rises, scratch) else {
-                return Chosen::Refused(1);
-            };
-            Chosen::Chain { position, k, price }
+            Chosen::Chain { k, price }
         }
         Choice::Nothing => {
             lent::clear_scratch(scratch);
             Chosen::Refused(5)
         }
+    }
+}
+
+// The best chain with its position: chooses it, and places the chain that then stands in the places. What is lent, refused and
+// left behind is as for `choose_chain`.
+pub fn best_chain(
+    n: u64,
+    limits: Limits,
+    prices: Prices,
+    scratch: &mut [u64],
+    places: &mut [u16],
+) -> Best
+    ensures answer { λ r. ⌜ r
+        ≡ bestOf (price (pricesOf prices))
+        (lent (now (scratch .entry)) (now (places .entry)) (bestOutcome n (limitsOf limits) (price (pricesOf prices)))) ⌝ }
+    ensures places { λ _. ⌜ now (places .exit)
+        ≡ placesLeft
+        (lent (now (scratch .entry)) (now (places .entry)) (bestOutcome n (limitsOf limits) (price (pricesOf prices))))
+        (now (places .entry)) ⌝ }
+    ensures scratch { λ _. ⌜ now (scratch .exit)
+        ≡ scratchLeft (tooLittle 64 (now (scratch .entry)) (now (places .entry))) (now (scratch .entry)) ⌝ }
+{
+    match choose_chain(n, limits, prices, scratch, places) {
+        Chosen::Chain { k, price } => {
+            let end = k as usize;
+            match ranking::place_record(&places[0..end], scratch) {
+                Position::At(position) => Best::Chain { position, k, price },
+                Position::Refused(number) => Best::Refused(number),
+            }
+        }
+        Chosen::Refused(number) => Best::Refused(number),
     }
 }

@@ -1,7 +1,7 @@
 // Fit lines, kind by kind: what the line asks for is read, the service called, and its answer told.
 use super::Replied;
 use super::tell;
-use best::Chosen;
+use best::Best;
 use best::Limits;
 use best::Prices;
 use counting::Counted;
@@ -18,7 +18,7 @@ ghost use Rattle.parts.specs.Parts.{largestOf, samePart};
 ghost use Rattle.words.specs.Walks.{point};
 ghost use Rattle.lent.specs.Lent.{tooLittle, Enough, scratchLeft};
 ghost use Rattle.ranking.specs.Services.{lent, placesLeft};
-ghost use Rattle.best.specs.Chosen.{limitsOf, pricesOf, bestOutcome, chosenOf};
+ghost use Rattle.best.specs.Chosen.{limitsOf, pricesOf, bestOutcome, bestOf};
 ghost use Rattle.trees.specs.Answers.{recordTree};
 ghost use Rattle.running.specs.Ran.{ranOf};
 ghost use Rattle.frames.specs.Calls.{Told, Handled, FitAs, readOnly};
@@ -76,10 +76,10 @@ fn prices_in(line: &[u8]) -> Prices
 }
 
 // The best chain of n, by the limits and prices of a line of kind 02.
-fn best_in(n: u64, line: &[u8], scratch: &mut [u64], places: &mut [u16]) -> Chosen
+fn best_in(n: u64, line: &[u8], scratch: &mut [u64], places: &mut [u16]) -> Best
     requires { ⌜ Fit (now line) best-line ⌝ }
     ensures { λ r. ⌜ r
-        ≡ chosenOf (price (pricesIn (now (line .entry))))
+        ≡ bestOf (price (pricesIn (now (line .entry))))
         (lent (now (scratch .entry)) (now (places .entry))
         (bestOutcome n (limitsIn (now (line .entry))) (price (pricesIn (now (line .entry)))))) ⌝ }
     ensures { λ _. ⌜ now (places .exit)
@@ -102,11 +102,11 @@ pub fn serve_best(line: &[u8], scratch: &mut [u64], out: &mut [u8]) -> Replied
     let n = lines::field_of(line, 1, 8);
     let mut places = [0u16; 64];
     match best_in(n, line, scratch, &mut places) {
-        Chosen::Chain { position, k, price } => {
+        Best::Chain { position, k, price } => {
             let end = k as usize;
             tell::tell_priced(out, n, position, &places[0..end], price)
         }
-        Chosen::Refused(number) => tell::tell_refusal(out, number),
+        Best::Refused(number) => tell::tell_refusal(out, number),
     }
 }
 

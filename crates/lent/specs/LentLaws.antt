@@ -111,6 +111,16 @@ module _ (size : ℕ) (s p : List ℕ) where
   unfolding tooLittle
   enough h = rw (scratch-enough s (h .numbers), le-ltb (length p) size (h .room))
 
+  pub enough-lent : tooLittle size s p ≡ false → Enough size s p
+  enough-lent e =
+      record {
+        numbers = not-below (λ (h : length s < scratchSize). true≢false (sym (little-scratch h) ∙ e));
+        room = not-below (λ (h : length p < size). true≢false (sym (little-places h) ∙ e));
+      }
+    where
+      not-below : {i k : ℕ} → ¬ (i < k) → k ≤ i
+      not-below n = omega arith
+
 -- Where one of two tests is asked for, and neither passed.
 pub neither : (a b : Bool) → (a || b) ≡ false → (a ≡ false) × (b ≡ false)
 neither true b e = absurd (true≢false e)

@@ -2,7 +2,8 @@
 -- A refusal leaves those as they were. Document 01, 'What a refused line or call gets', and document 02 have the refusals' numbers;
 -- of all but the reply 0 says that the call was served.
 --
--- In this order: the reply to a line, the count, a chain that is found, the best chain, tree words, the run of a chain, the bench.
+-- In this order: the reply to a line, the count, a chain that is found, the best chain, placing, tree words, the run of a chain, the
+-- bench.
 -- Definitions only.
 use mathlib.Core.Bool.{Bool, true, false}
 use mathlib.Core.List.{List}
@@ -11,7 +12,7 @@ use lib.ListN.{length}
 use Rattle.chains.specs.Words.{Word}
 use Rattle.chains.specs.Listing.{position}
 use Rattle.chains.specs.Best.{Prices, Limits, price}
-use Rattle.ranking.specs.Services.{Outcome, refused, gives, lent}
+use Rattle.ranking.specs.Services.{Outcome, refused, gives, lent, lentScratch, ofRecord}
 use Rattle.counting.specs.declared.Counted.{Counted}
 use Rattle.counting.specs.declared.Counted.the-variants.{Count, Refused}
 use Rattle.trees.specs.Answers.{ofTree, TreeWord, noTree, treeWord, recordTree, lentTree}
@@ -80,6 +81,12 @@ bestAsked scratch places n lim π = lent scratch places (bestOutcome n lim (pric
 unfoldable pub priceOr : Prices → Outcome → ℕ → ℕ
 priceOr π (refused r) x = x
 priceOr π (gives n c) x = price π c
+
+-- ---- placing
+
+-- What is asked for: the chain of a record, and refusal 1 first, where the scratch is too small.
+abbrev pub placeAsked : List ℕ → List ℕ → Outcome
+placeAsked scratch numbers = lentScratch scratch (ofRecord numbers)
 
 -- ---- tree words
 

@@ -4,17 +4,20 @@
 use bench::Benched;
 use bench::Told;
 use bench::Walked;
+use best::Best;
 use best::Chosen;
 use best::Limits;
 use best::Prices;
 use counting::Counted;
 use frames::Replied;
 use ranking::Found;
+use ranking::Position;
 use running::Ran;
 use words::Written;
 ghost use mathlib.Core.Path.{_≡_};
 ghost use Rattle.lent.specs.Lent.{tooLittle, scratchLeft, littleScratch};
 ghost use Rattle.ranking.specs.Services.{placesLeft};
+ghost use Rattle.best.specs.Chosen as best;
 ghost use Rattle.counting.specs.TableCount.{countedOf};
 ghost use Rattle.frames.specs.Replies.{outLeft};
 ghost use Rattle.trees.specs.Answers.{treeLeft};
@@ -23,7 +26,7 @@ ghost use Rattle.bench.specs.Benches.{openOutcome, moveOutcome, saveOutcome, ba
 ghost use Rattle.bench.specs.Benches.{walkedOf, walkLeft, toldOf, placesLeft as toldLeft};
 ghost use Rattle.meltsjuk.specs.Answers.{digitsOrRefusal, countStatus, countOr};
 ghost use Rattle.meltsjuk.specs.Answers.{outcomeStatus, numberOr, positionOr, partsOr};
-ghost use Rattle.meltsjuk.specs.Answers.{limitsOf, pricesOf, bestAsked, priceOr};
+ghost use Rattle.meltsjuk.specs.Answers.{limitsOf, pricesOf, bestAsked, priceOr, placeAsked};
 ghost use Rattle.meltsjuk.specs.Answers.{treeChainAsked, treeAsked, treeStatus, lettersOr};
 ghost use Rattle.meltsjuk.specs.Answers.{runStatus, residueOr};
 ghost use Rattle.meltsjuk.specs.Answers.{benchStatus, walkStatus, movesOr, walkedPartsOr};
@@ -58,6 +61,28 @@ pub extern "C" fn meltsjuk_count(n: u64, scratch: &mut [u64], count: &mut u64) -
             0
         }
         Counted::Refused(number) => number,
+    }
+}
+
+// The limits and the prices that a caller hands over as numbers.
+fn limits_by(parts: u8, a: u8, b: u8) -> Limits
+    ensures { λ r. ⌜ best.limitsOf r ≡ limitsOf parts a b ⌝ }
+{
+    Limits {
+        parts,
+        doublings: a,
+        triplings: b,
+    }
+}
+
+fn prices_by(d: u16, t: u16, s2: u16, s3: u16) -> Prices
+    ensures { λ r. ⌜ best.pricesOf r ≡ pricesOf d t s2 s3 ⌝ }
+{
+    Prices {
+        doubling: d,
+        tripling: t,
+        addition_2: s2,
+        addition_3: s3,
     }
 }
 
@@ -102,19 +127,10 @@ pub extern "C" fn meltsjuk_best(
     ensures scratch { λ _. ⌜ now (scratch .exit)
         ≡ scratchLeft (tooLittle 64 (now (scratch .entry)) (now (places .entry))) (now (scratch .entry)) ⌝ }
 {
-    let limits = Limits {
-        parts: parts_limit,
-        doublings: a_limit,
-        triplings: b_limit,
-    };
-    let prices = Prices {
-        doubling: d,
-        tripling: t,
-        addition_2: s2,
-        addition_3: s3,
-    };
+    let limits = limits_by(parts_limit, a_limit, b_limit);
+    let prices = prices_by(d, t, s2, s3);
     match best::best_chain(n, limits, prices, scratch, places) {
-        Chosen::Chain {
+        Best::Chain {
             position: i,
             k: parts,
             price: cost,
@@ -124,7 +140,76 @@ pub extern "C" fn meltsjuk_best(
             *price = cost;
             0
         }
+        Best::Refused(number) => number,
+    }
+}
+
+// Choosing: the same chain as `meltsjuk_best`, without its position, as `best::choose_chain` finds it, its part numbers in the
+// places. Answers 0 with the number of parts and the price put in `k` and `price`, or 1 or 5, and the two are as they were.
+#[no_mangle]
+pub extern "C" fn meltsjuk_choose(
+    n: u64,
+    parts_limit: u8,
+    a_limit: u8,
+    b_limit: u8,
+    d: u16,
+    t: u16,
+    s2: u16,
+    s3: u16,
+    scratch: &mut [u64],
+    places: &mut [u16],
+    k: &mut u64,
+    price: &mut u64,
+) -> u8
+    ensures answer { λ r. ⌜ r
+        ≡ outcomeStatus
+        (bestAsked (now (scratch .entry)) (now (places .entry)) n (limitsOf «parts_limit» «a_limit» «b_limit») (pricesOf d t s2 s3)) ⌝ }
+    ensures k { λ _. ⌜ now (k .exit)
+        ≡ partsOr
+        (bestAsked (now (scratch .entry)) (now (places .entry)) n (limitsOf «parts_limit» «a_limit» «b_limit») (pricesOf d t s2 s3))
+        (now (k .entry)) ⌝ }
+    ensures price { λ _. ⌜ now (price .exit)
+        ≡ priceOr (pricesOf d t s2 s3)
+        (bestAsked (now (scratch .entry)) (now (places .entry)) n (limitsOf «parts_limit» «a_limit» «b_limit») (pricesOf d t s2 s3))
+        (now (price .entry)) ⌝ }
+    ensures places { λ _. ⌜ now (places .exit)
+        ≡ placesLeft
+        (bestAsked (now (scratch .entry)) (now (places .entry)) n (limitsOf «parts_limit» «a_limit» «b_limit») (pricesOf d t s2 s3))
+        (now (places .entry)) ⌝ }
+    ensures scratch { λ _. ⌜ now (scratch .exit)
+        ≡ scratchLeft (tooLittle 64 (now (scratch .entry)) (now (places .entry))) (now (scratch .entry)) ⌝ }
+{
+    let limits = limits_by(parts_limit, a_limit, b_limit);
+    let prices = prices_by(d, t, s2, s3);
+    match best::choose_chain(n, limits, prices, scratch, places) {
+        Chosen::Chain {
+            k: parts,
+            price: cost,
+        } => {
+            *k = parts;
+            *price = cost;
+            0
+        }
         Chosen::Refused(number) => number,
+    }
+}
+
+// Placing: the position of the chain whose part numbers are `numbers`, largest part first, in the list of the number that the parts
+// sum to, as `ranking::place_record` tells it. Answers 0 with the position put in `position`, or 1, 8, 9 or 10, and `position` is as
+// it was.
+#[no_mangle]
+pub extern "C" fn meltsjuk_place(numbers: &[u16], scratch: &mut [u64], position: &mut u64) -> u8
+    ensures answer { λ r. ⌜ r ≡ outcomeStatus (placeAsked (now (scratch .entry)) (now (numbers .entry))) ⌝ }
+    ensures position { λ _. ⌜ now (position .exit)
+        ≡ positionOr (placeAsked (now (scratch .entry)) (now (numbers .entry))) (now (position .entry)) ⌝ }
+    ensures scratch { λ _. ⌜ now (scratch .exit) ≡ scratchLeft (littleScratch (now (scratch .entry))) (now (scratch .entry)) ⌝ }
+{
+    match ranking::place_record(numbers, scratch) {
+        Position::At(index) => {
+            *position = index;
+            0
+        }
+        Position::Refused(number) => number,
     }
 }
 

@@ -1,5 +1,5 @@
 -- How the answers and the lent memory of the services come out, case by case. In order: a scratch too small, and one that is not; a
--- record and a word in two numbers; the chain at a position; too little lent to a service with places, and enough.
+-- record that is placed; a record and a word in two numbers; the chain at a position; too little lent to a service with places, and enough.
 use mathlib.Core.Path.{_≡_, refl, sym, ap, _∙_}
 use mathlib.Core.Logic.{_⊎_, inl, inr}
 use mathlib.Core.Bool.{true, false}
@@ -33,10 +33,12 @@ use Rattle.counting.specs.declared.Counted.{Counted}
 use Rattle.counting.specs.declared.Counted.the-variants as counted
 use Rattle.counting.specs.declared.Listed.the-variants as listed
 use Rattle.ranking.specs.Services.{Outcome, refused, gives, lentScratch, lent}
-use Rattle.ranking.specs.Services.{placedOf, answerOf, placesLeft, judgedAs, ofRecord, ofWord, standing, after, nextOf}
+use Rattle.ranking.specs.Services.{placedOf, positionOf, answerOf, placesLeft, judgedAs, ofRecord, ofWord, standing, after, nextOf}
 use Rattle.ranking.specs.Outcomes.{standing-below, standing-past, position-word}
+use Rattle.ranking.specs.RoundTrips.{refused-alike}
 use Rattle.ranking.specs.Giving.{placedAt, TwoNumbers, At, Given}
 use Rattle.ranking.specs.declared.Placed.the-variants as placed
+use Rattle.ranking.specs.declared.Position.the-variants as told
 use Rattle.ranking.specs.declared.Found.{Found}
 use Rattle.ranking.specs.declared.Found.the-variants as found
 
@@ -52,6 +54,16 @@ pub scratch-served : (s t : List ℕ) (o : Outcome) (r : placed.the-data) → sc
     → (r ≡ placedOf (lentScratch s o)) × (t ≡ scratchLeft (littleScratch s) s)
 unfolding lentScratch scratchLeft
 scratch-served s t o r h e f = rw (scratch-enough s h) (e, f)
+
+-- ---- a record that is placed
+
+pub position-placed : (o : Outcome) {n i : ℕ} → placedOf o ≡ placed.At n i → told.At i ≡ positionOf o
+unfolding placedOf positionOf
+position-placed (refused r) e = let z : _≡_ {A = ℕ} 0 1 = cc in absurd (omega arith)
+position-placed (gives n c) e = cc
+
+pub position-refused : (o : Outcome) {r : ℕ} → placedOf o ≡ placed.Refused r → told.Refused r ≡ positionOf o
+position-refused o {r} e = sym (refused-alike o r .1 e)
 
 -- ---- a word in two numbers
 

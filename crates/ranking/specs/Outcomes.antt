@@ -232,3 +232,12 @@ record-gives l n c e = go (judgedOf l) refl
         let k = rw f at e in
         let z : _≡_ {A = ℕ} 0 1 = cc k in
         absurd (omega arith)
+
+-- It is a chain of the sum of the record's parts.
+pub record-sum : (l : List ℕ) (n : ℕ) (c : List Part) → ofRecord l ≡ gives n c → total (recordParts l) ≡ n
+unfolding ofRecord judgedAs
+record-sum l n c e = go (judgedOf l) refl
+  where
+    go : (j : Judged) → judgedOf l ≡ j → total (recordParts l) ≡ n
+    go (judged.Sum m) f = let number : m ≡ n = cc (rw f at e) in judged-sum l m .0 f .chain .sums ∙ number
+    go (judged.Refused r) f = let z : _≡_ {A = ℕ} 0 1 = cc (rw f at e) in absurd (omega arith)

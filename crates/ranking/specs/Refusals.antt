@@ -1,6 +1,6 @@
 -- Which refusal each service gives, in the terms of document 01's table: each number exactly if what the table says holds, and no
 -- other number.
--- In order: reading a word; the next chain; reading a record, each where enough is lent; then refusal 1, which comes first, exactly
+-- In order: reading a word; the next chain; reading and placing a record, each where enough is lent; then refusal 1, which comes first, exactly
 -- where too little is lent. The tables of refusals, `WordRefusals` and `RecordRefusals`, are in words. That position i is refused
 -- with 6 exactly past the count is in RoundTrips.
 use mathlib.Core.Path.{_≡_, refl, sym, ap, _∙_}
@@ -28,10 +28,11 @@ use Rattle.words.specs.Refusals.{WordRefusals, word-lifted, word-tested, Record
 use Rattle.words.specs.declared.Judged.{Judged}
 use Rattle.words.specs.declared.Judged.the-variants as judged
 use Rattle.ranking.specs.Services.{Outcome, refused, gives, lent, lentScratch, answerOf, placedOf, atPosition}
-use Rattle.ranking.specs.Services.{ofWord, nextOf, judgedAs, ofRecord}
+use Rattle.ranking.specs.Services.{positionOf, ofWord, nextOf, judgedAs, ofRecord}
 use Rattle.ranking.specs.Outcomes.{same-refusal, no-refusal, standing-refused, of-gives, after-refused, after-last}
-use Rattle.ranking.specs.RoundTrips.{found-refused, placed-refused}
+use Rattle.ranking.specs.RoundTrips.{found-refused, placed-refused, refused-alike}
 use Rattle.ranking.specs.declared.Placed.the-variants as placed
+use Rattle.ranking.specs.declared.Position.the-variants as told
 use Rattle.ranking.specs.declared.Found.the-variants as found
 
 -- ---- reading a word
@@ -146,9 +147,9 @@ module _ (w : Word) where
         no-other = λ r e. next-refusals .no-other r (told r .0 e);
       }
 
--- ---- reading a record
+-- ---- reading and placing a record
 
--- The outcome, and what reading a record answers.
+-- The outcome, and what reading a record and placing it answer.
 pub record-refusals : (l : List ℕ) → RecordRefusals l (λ r. ofRecord l ≡ refused r)
 unfolding ofRecord judgedAs
 record-refusals l = record-lifted (λ r. as-judged r (judgedOf l)) (judged-refusals l)
@@ -163,6 +164,10 @@ record-refusals l = record-lifted (λ r. as-judged r (judgedOf l)) (judged-refus
 pub read-record-refusals : (l s : List ℕ) → scratchSize ≤ length s
     → RecordRefusals l (λ r. placedOf (lentScratch s (ofRecord l)) ≡ placed.Refused r)
 read-record-refusals l s h = record-lifted (placed-refused s h (ofRecord l)) (record-refusals l)
+
+pub place-record-refusals : (l s : List ℕ) → scratchSize ≤ length s
+    → RecordRefusals l (λ r. positionOf (lentScratch s (ofRecord l)) ≡ told.Refused r)
+place-record-refusals l s h = record-lifted (refused-alike (lentScratch s (ofRecord l))) (read-record-refusals l s h)
 
 -- Where it is not refused it gives the chain of its parts.
 pub record-given : (l : List ℕ) (n : ℕ) → (ofRecord l ≡ gives n (recordParts l)) ↔ Burned l n
@@ -229,3 +234,7 @@ read-record-too-little l s =
     (λ e.
     ⊎-elim (λ (f : 1 ≡ 8). omega arith)
     (⊎-elim (λ (f : 1 ≡ 9). omega arith) (λ (f : 1 ≡ 10). omega arith)) (record-refusals l .no-other 1 e))
+
+pub place-record-too-little : (l s : List ℕ)
+    → (positionOf (lentScratch s (ofRecord l)) ≡ told.Refused 1) ↔ (length s < scratchSize)
+place-record-too-little l s = Iff·trans (refused-alike (lentScratch s (ofRecord l)) 1) (read-record-too-little l s)

@@ -1,6 +1,7 @@
 -- Demand 2: what one service answers and leaves in the places, handed to another, leads back.
--- In order: what an answer says of its outcome; the part numbers that stand in the places; all services for a chain of n; from a
--- record to the chain at its position and back; from a word to its record and back; from a word to the next one.
+-- In order: what an answer says of its outcome; reading a record and placing it; the part numbers that stand in the places; all
+-- services for a chain of n; from a record to the chain at its position and back; from a word to its record and back; from a word to
+-- the next one.
 -- That the outcomes are 003's chains and their positions, each as the service's definition has it, is in Outcomes.
 use mathlib.Core.Path.{_≡_, refl, sym, ap, _∙_}
 use mathlib.Core.Logic.{_↔_, Iff·trans}
@@ -9,20 +10,24 @@ use mathlib.Core.List.{List, map}
 use Prim.Native.Nat.{ℕ, _+_, _^_, _≤_, _<_}
 use native.Mathlib.Omega.{arith}
 use lib.ListN.{length, take, length-map}
-use Rattle.lent.specs.LentLaws.{filled-first, scratch-enough, enough}
-use Rattle.chains.specs.Chains.{Part, ChainOf}
+use Rattle.lent.specs.LentLaws.{filled-first, scratch-enough, enough, enough-lent}
+use Rattle.chains.specs.Chains.{Part, total, ChainOf}
 use Rattle.chains.specs.Words.{Word, wordOf}
 use Rattle.chains.specs.Listing.{count, position}
 use Rattle.lent.specs.Lent.{filled, scratchSize, littleScratch, tooLittle, Enough}
 use Rattle.parts.specs.Parts.{partNumber}
+use Rattle.words.specs.Records.{recordParts}
 use Rattle.words.specs.Conversions.{writtenOf, lettersLeft}
 use Rattle.words.specs.WordLaws.{chain-written}
 use Rattle.words.specs.declared.Written.the-variants as written
 use Rattle.ranking.specs.Services.{Outcome, refused, gives, lent, lentScratch, answerOf, placesLeft}
-use Rattle.ranking.specs.Services.{placedOf, atPosition, ofWord, after, nextOf, ofRecord}
+use Rattle.ranking.specs.Services.{placedOf, positionOf, atPosition, ofWord, after, nextOf, ofRecord}
 use Rattle.ranking.specs.Outcomes.{no-refusal, standing-refused, at-chain, at-gives, of-chain, of-gives}
-use Rattle.ranking.specs.Outcomes.{after-refused, next-below, next-last, next-gives, record-chain, record-gives}
+use Rattle.ranking.specs.Outcomes.{after-refused, next-below, next-last, next-gives, record-chain, record-gives, record-sum}
+use Rattle.ranking.specs.declared.Placed.{Placed}
 use Rattle.ranking.specs.declared.Placed.the-variants as placed
+use Rattle.ranking.specs.declared.Position.{Position}
+use Rattle.ranking.specs.declared.Position.the-variants as told
 use Rattle.ranking.specs.declared.Found.the-variants as found
 
 -- ---- answers and outcomes
@@ -94,6 +99,41 @@ placed-gives scratch o n i e then =
     let number : m ≡ n = cc g in
     then c (given ∙ ap (λ (x : ℕ). gives x c) number) (cc g)
 
+pub lent-gives : (scratch places : List ℕ) (o : Outcome) (n : ℕ) (c : List Part) → lent scratch places o ≡ gives n c
+    → Enough 64 scratch places × (o ≡ gives n c)
+unfolding lent
+lent-gives scratch places o n c e =
+    let (m, d, enough, given) = own-gives (tooLittle 64 scratch places) o (λ r f. no-refusal n c r (sym e ∙ f)) in
+    (enough-lent 64 scratch places enough, rw enough at e)
+
+-- ---- reading a record and placing it
+
+-- n, and what placing tells.
+unfoldable pub withNumber : ℕ → Position → Placed
+withNumber n (told.At i) = placed.At n i
+withNumber n (told.Refused r) = placed.Refused r
+
+-- Reading a record tells the sum of its parts and what placing tells, for every record and scratch.
+pub read-is-place : (l s : List ℕ)
+    → placedOf (lentScratch s (ofRecord l)) ≡ withNumber (total (recordParts l)) (positionOf (lentScratch s (ofRecord l)))
+unfolding withNumber placedOf positionOf lentScratch
+read-is-place l s = go (lentScratch s (ofRecord l)) refl
+  where
+    go : (o : Outcome) → lentScratch s (ofRecord l) ≡ o → placedOf o ≡ withNumber (total (recordParts l)) (positionOf o)
+    go (refused r) e = refl
+    go (gives n c) e =
+        let (m, d, enough, given) = own-gives (littleScratch s) (ofRecord l) (λ r f. no-refusal n c r (sym e ∙ f)) in
+        rw (record-sum l n c (rw enough at e))
+
+-- So both refuse alike.
+pub refused-alike : (o : Outcome) (r : ℕ) → (positionOf o ≡ told.Refused r) ↔ (placedOf o ≡ placed.Refused r)
+unfolding placedOf positionOf
+refused-alike (refused q) r = (λ e. cc, λ e. cc)
+refused-alike (gives n c) r = (
+  λ e. let z : _≡_ {A = ℕ} 0 1 = cc in absurd (omega arith),
+  λ e. let z : _≡_ {A = ℕ} 0 1 = cc in absurd (omega arith),
+)
+
 -- ---- the part numbers in the places
 
 -- The first k places are the part numbers of the chain.
@@ -140,6 +180,7 @@ letters-left n c chain f room h = rw (chain-written n c chain f room h .1) (fill
 -- What the services answer and leave behind for a chain c of n, asked by its record, its position and its word.
 pub record Trips (n : ℕ) (c : List Part) (scratch places room : List ℕ) : Type 0 where
   pub read-record : placedOf (lentScratch scratch (ofRecord (map partNumber c))) ≡ placed.At n (position n c)
+  pub place-record : positionOf (lentScratch scratch (ofRecord (map partNumber c))) ≡ told.At (position n c)
   pub chain-at : lent scratch places (atPosition n (position n c)) ≡ gives n c
   pub read-word : lent scratch places (ofWord (wordOf c)) ≡ gives n c
   pub next-chain : position n c + 1 < count n
@@ -155,11 +196,12 @@ pub chain-trips :
     → Enough 64 scratch places
     → 64 ≤ length room
     → Trips n c scratch places room
-unfolding placedOf
+unfolding placedOf positionOf
 chain-trips n c scratch places room h f e r =
     let served : (o : Outcome) → lent scratch places o ≡ o = λ o. lent-all scratch places o e in
     record {
       read-record = rw (lent-scratch scratch (ofRecord (map partNumber c)) (e .numbers), record-chain n c h f);
+      place-record = rw (lent-scratch scratch (ofRecord (map partNumber c)) (e .numbers), record-chain n c h f);
       chain-at = served (atPosition n (position n c)) ∙ at-chain n c h;
       read-word = served (ofWord (wordOf c)) ∙ of-chain n c h f;
       next-chain = λ l. ap (lent scratch places) (next-below n c h f l);

@@ -18,6 +18,8 @@ use Rattle.words.specs.declared.Judged.the-variants as judged
 use Rattle.words.specs.Records.{recordParts, judgedOf}
 use Rattle.ranking.specs.declared.Placed.{Placed}
 use Rattle.ranking.specs.declared.Placed.the-variants as placed
+use Rattle.ranking.specs.declared.Position.{Position}
+use Rattle.ranking.specs.declared.Position.the-variants as told
 use Rattle.ranking.specs.declared.Found.{Found}
 use Rattle.ranking.specs.declared.Found.the-variants as found
 
@@ -83,6 +85,11 @@ ofRecord l = judgedAs l (judgedOf l)
 unfoldable pub placedOf : Outcome → Placed
 placedOf (refused r) = placed.Refused r
 placedOf (gives n c) = placed.At n (position n c)
+
+-- What placing a record's chain tells: the position alone.
+unfoldable pub positionOf : Outcome → Position
+positionOf (refused r) = told.Refused r
+positionOf (gives n c) = told.At (position n c)
 
 unfoldable pub lentScratch : List ℕ → Outcome → Outcome
 lentScratch scratch o = cond (littleScratch scratch) (refused 1) o

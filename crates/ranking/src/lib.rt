@@ -6,11 +6,17 @@ use words::Packed;
 ghost use mathlib.Core.Path.{_≡_};
 ghost use Rattle.lent.specs.Lent.{littleScratch, tooLittle, scratchLeft};
 ghost use Rattle.ranking.specs.Services.{lent, answerOf, placesLeft, atPosition, ofWord, nextOf};
-ghost use Rattle.ranking.specs.Services.{ofRecord, placedOf, lentScratch};
+ghost use Rattle.ranking.specs.Services.{ofRecord, placedOf, positionOf, lentScratch};
 
 // The number that a record's chain sums to and the chain's position in its list, or the refusal.
 pub enum Placed {
     At { n: u64, position: u64 },
+    Refused(u8),
+}
+
+// The position of a chain in its list, or the refusal.
+pub enum Position {
+    At(u64),
     Refused(u8),
 }
 
@@ -41,6 +47,19 @@ pub fn read_record(numbers: &[u16], scratch: &mut [u64]) -> Placed
             lent::clear_scratch(scratch);
             Placed::Refused(number)
         }
+    }
+}
+
+// Placing: the position of the chain whose part numbers are `numbers`, largest part first, in the list of the number that the parts
+// sum to. It takes and refuses what reading a record does, and leaves the scratch as that does.
+pub fn place_record(numbers: &[u16], scratch: &mut [u64]) -> Position
+    ensures answer { λ r. ⌜ r ≡ positionOf (lentScratch (now (scratch .entry)) (ofRecord (now (numbers .entry)))) ⌝ }
+    ensures scratch { λ _. ⌜ now (scratch .exit)
+        ≡ scratchLeft (littleScratch (now (scratch .entry))) (now (scratch .entry)) ⌝ }
+{
+    match read_record(numbers, scratch) {
+        Placed::At { n: _, position } => Position::At(position),
+        Placed::Refused(number) => Position::Refused(number),
     }
 }
 

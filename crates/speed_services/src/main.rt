@@ -1,6 +1,7 @@
 // The services on a long sequence of 64-bit numbers, to be timed by speed/run: `speed_services SERVICE TIMES`, both in decimal.
-// SERVICE: 1 count, 2 best chain, 3 chain at a position. Prints a sum over all answers, which speed/plain_services.rs prints too.
+// SERVICE: 1 count, 2 best chain, 3 chain at a position, 4 choosing. Prints a sum over all answers, which speed/plain_services.rs prints too.
 // With no words it does nothing.
+use best::Best;
 use best::Chosen;
 use best::Limits;
 use best::Prices;
@@ -55,23 +56,45 @@ fn counted(n: u64, scratch: &mut [u64]) -> u64 {
     }
 }
 
-fn chosen(n: u64, prices: u64, scratch: &mut [u64]) -> u64 {
-    let mut places = [0u16; 64];
-    let limits = Limits {
+fn no_limits() -> Limits {
+    Limits {
         parts: 64,
         doublings: 63,
         triplings: 40,
-    };
-    let asked = Prices {
-        doubling: (prices % 65536) as u16,
-        tripling: (prices / 65536 % 65536) as u16,
-        addition_2: (prices / 4294967296 % 65536) as u16,
-        addition_3: (prices / 281474976710656) as u16,
-    };
-    match best::best_chain(n, limits, asked, scratch, &mut places) {
-        Chosen::Chain { position, k, price } => digest(position, price, k, &places),
+    }
+}
+
+// Four prices from one number.
+fn prices_in(x: u64) -> Prices {
+    Prices {
+        doubling: (x % 65536) as u16,
+        tripling: (x / 65536 % 65536) as u16,
+        addition_2: (x / 4294967296 % 65536) as u16,
+        addition_3: (x / 281474976710656) as u16,
+    }
+}
+
+fn best_of(n: u64, x: u64, scratch: &mut [u64]) -> u64 {
+    let mut places = [0u16; 64];
+    match best::best_chain(n, no_limits(), prices_in(x), scratch, &mut places) {
+        Best::Chain { position, k, price } => digest(position, price, k, &places),
+        Best::Refused(_) => 0,
+    }
+}
+
+fn chosen(n: u64, x: u64, scratch: &mut [u64]) -> u64 {
+    let mut places = [0u16; 64];
+    match best::choose_chain(n, no_limits(), prices_in(x), scratch, &mut places) {
+        Chosen::Chain { k, price } => digest(0, price, k, &places),
         Chosen::Refused(_) => 0,
     }
+}
+
+fn best_or_chosen(service: u64, n: u64, x: u64, scratch: &mut [u64]) -> u64 {
+    if service == 4 {
+        return chosen(n, x, scratch);
+    }
+    best_of(n, x, scratch)
 }
 
 // Numbers and a position below the count of each.
@@ -140,14 +163,15 @@ fn sum_of_counts(times: u64, scratch: &mut [u64]) -> u64 {
     sum
 }
 
-fn sum_of_best(times: u64, scratch: &mut [u64]) -> u64 {
+// Best chains, or chosen ones where the service is 4.
+fn sum_of_best(service: u64, times: u64, scratch: &mut [u64]) -> u64 {
     let mut x: u64 = 88172645463325252;
     let mut sum: u64 = 0;
     let mut i = 0;
     while i < times {
         let n = next(x);
         x = next(n);
-        sum = std::num::wrapping_add_u64(sum, chosen(n, x, scratch));
+        sum = std::num::wrapping_add_u64(sum, best_or_chosen(service, n, x, scratch));
         i += 1;
     }
     sum
@@ -173,7 +197,7 @@ fn main() {
     let mut scratch = [0u64; lent::SCRATCH];
     let sum = match service {
         1 => sum_of_counts(times, &mut scratch),
-        2 => sum_of_best(times, &mut scratch),
+        2 | 4 => sum_of_best(service, times, &mut scratch),
         3 => sum_of_placed(times, &mut scratch),
         _ => return,
     };

@@ -1,14 +1,19 @@
 // The best chain of 0 to 400 under twelve limits and prices each; of a thousand 64-bit numbers, with no limit and with limits one
 // below, at and one above what the best chain needs; of numbers at the edges, with what is left in the lent memory, for a scratch of
-// 512 numbers, of 513 and of 5,248; and with too little lent.
+// 512 numbers, of 513 and of 5,248; and with too little lent. Each in one call, and in two, by choosing and placing.
 //
-// A line: the position, the number of parts, the price and the part numbers, or the number of the refusal. Where the lent memory is
-// looked at, it holds only ones at entry, and the line goes on with where the zeros that the scratch begins with end, where the ones
-// that follow them end, and the same of the places behind the parts.
+// A line: the position, the number of parts, the price and the part numbers, or the number of the refusal; then = where the two calls
+// tell the same position, number of parts and price, or the same refusal. With limits one below, at and one above, only the two calls
+// are told. Where the lent memory is looked at, it holds only ones at entry, and the line goes on with where the zeros that the
+// scratch begins with end, where the ones that follow them end, and the same of the places behind the parts. Then a second line tells
+// the two calls apart: the number of parts, the price and the part numbers that were chosen, with what is left, and the position with
+// what is left in the scratch.
+use best::Best;
 use best::Chosen;
 use best::Limits;
 use best::Prices;
 use libc::STDOUT_FILENO;
+use ranking::Position;
 
 fn at_most(parts: u8, doublings: u8, triplings: u8) -> Limits {
     Limits {
@@ -100,12 +105,16 @@ fn end_line() {
     io::write_all(STDOUT_FILENO, b"\n");
 }
 
+fn print_pair(x: u64, y: u64) {
+    print(x);
+    space();
+    print(y);
+}
+
 fn print_three(position: u64, k: u64, price: u64) {
     print(position);
     space();
-    print(k);
-    space();
-    print(price);
+    print_pair(k, price);
 }
 
 fn wide(x: u16) -> u64 {
@@ -125,28 +134,98 @@ fn print_places(k: u64, places: &[u16]) {
     }
 }
 
-fn print_chosen(chosen: Chosen, places: &[u16]) {
-    match chosen {
-        Chosen::Chain { position, k, price } => {
+fn print_best(found: Best, places: &[u16]) {
+    match found {
+        Best::Chain { position, k, price } => {
             print_three(position, k, price);
             print_places(k, places);
         }
-        Chosen::Refused(r) => print(r as u64),
+        Best::Refused(r) => print(r as u64),
     }
+}
+
+fn hold_ones(scratch: &mut [u64]) {
+    let mut i = 0;
+    while i < scratch.len() {
+        scratch[i] = u64::MAX;
+        i += 1;
+    }
+}
+
+// ---- two calls
+
+// The position of the chain whose part numbers are the first k places. The scratch holds ones at entry.
+fn placed(k: u64, scratch: &mut [u64], places: &[u16]) -> Position {
+    let end = k as usize;
+    if places.len() < end {
+        return Position::Refused(0);
+    }
+    hold_ones(scratch);
+    ranking::place_record(&places[0..end], scratch)
+}
+
+// What choosing and then placing tell.
+fn in_two_calls(n: u64, l: Limits, p: Prices, scratch: &mut [u64], places: &mut [u16]) -> Best {
+    match best::choose_chain(n, l, p, scratch, places) {
+        Chosen::Chain { k, price } => match placed(k, scratch, places) {
+            Position::At(position) => Best::Chain { position, k, price },
+            Position::Refused(r) => Best::Refused(r),
+        },
+        Chosen::Refused(r) => Best::Refused(r),
+    }
+}
+
+fn is_chain(found: Best, i: u64, k: u64, price: u64) -> bool {
+    match found {
+        Best::Chain {
+            position: a,
+            k: b,
+            price: c,
+        } => (a == i) & (b == k) & (c == price),
+        Best::Refused(_) => false,
+    }
+}
+
+fn is_refused(found: Best, number: u8) -> bool {
+    match found {
+        Best::Chain {
+            position: _,
+            k: _,
+            price: _,
+        } => false,
+        Best::Refused(r) => r == number,
+    }
+}
+
+fn is_same(found: Best, other: Best) -> bool {
+    match found {
+        Best::Chain { position, k, price } => is_chain(other, position, k, price),
+        Best::Refused(r) => is_refused(other, r),
+    }
+}
+
+// The best chain in one call, and = where two calls tell the same.
+fn tell_best(n: u64, l: Limits, p: Prices, scratch: &mut [u64], places: &mut [u16]) -> Best {
+    let apart = in_two_calls(n, l, p, scratch, places);
+    let found = best::best_chain(n, l, p, scratch, places);
+    print_best(found, places);
+    if is_same(found, apart) {
+        io::write_all(STDOUT_FILENO, b" =");
+    }
+    found
 }
 
 // ---- small numbers
 
 fn tell_dozen(n: u64, scratch: &mut [u64], places: &mut [u16]) {
     for i in 0..12 {
-        let chosen = best::best_chain(
+        tell_best(
             n,
             limits_at(i % 10),
             prices_of((n % 6 + i) % 6),
             scratch,
             places,
         );
-        print_chosen(chosen, places);
         end_line();
     }
 }
@@ -193,10 +272,10 @@ fn variant(i: u64, need: Need) -> Limits {
     }
 }
 
-// What is chosen under a limit, or = where that is what was chosen without.
-fn print_compared(position: u64, chosen: Chosen) {
-    match chosen {
-        Chosen::Chain {
+// What is found under a limit, or = where that is what was found without.
+fn print_compared(position: u64, found: Best) {
+    match found {
+        Best::Chain {
             position: i,
             k,
             price,
@@ -207,14 +286,14 @@ fn print_compared(position: u64, chosen: Chosen) {
                 print_three(i, k, price);
             }
         }
-        Chosen::Refused(r) => print(r as u64),
+        Best::Refused(r) => print(r as u64),
     }
 }
 
 fn tell_limited(n: u64, need: Need, p: Prices, scratch: &mut [u64], places: &mut [u16]) {
     for i in 0..5 {
-        let chosen = best::best_chain(n, variant(i, need), p, scratch, places);
-        print_compared(need.position, chosen);
+        let found = in_two_calls(n, variant(i, need), p, scratch, places);
+        print_compared(need.position, found);
         space();
     }
     end_line();
@@ -239,14 +318,13 @@ fn need_of(position: u64, k: u64, i: u64, table: &[u64], places: &[u16]) -> Need
 
 fn tell_around(n: u64, i: u64, table: &[u64], scratch: &mut [u64], places: &mut [u16]) {
     let p = prices_of(i % 6);
-    let chosen = best::best_chain(n, limits_at(0), p, scratch, places);
-    print_chosen(chosen, places);
+    let found = tell_best(n, limits_at(0), p, scratch, places);
     end_line();
-    let Chosen::Chain {
+    let Best::Chain {
         position,
         k,
         price: _,
-    } = chosen
+    } = found
     else {
         return;
     };
@@ -270,14 +348,6 @@ fn tell_random(table: &[u64], scratch: &mut [u64], places: &mut [u16]) {
 }
 
 // ---- numbers at the edges, and what is left in the lent memory
-
-fn hold_ones(scratch: &mut [u64]) {
-    let mut i = 0;
-    while i < scratch.len() {
-        scratch[i] = u64::MAX;
-        i += 1;
-    }
-}
 
 fn hold_ones_in_places(places: &mut [u16]) {
     let mut i = 0;
@@ -310,35 +380,88 @@ fn end_of_places(s: &[u16], from: usize, x: u16) -> usize {
     i
 }
 
-// Where the zeros of the scratch end, and the ones after them; the same of the places, behind the first k.
-fn print_left(chosen: Chosen, scratch: &[u64], places: &[u16]) {
-    let mut from = 0;
-    if let Chosen::Chain {
-        position: _,
-        k,
-        price: _,
-    } = chosen {
-        from = k as usize;
-    }
+// Where the zeros of the scratch end, and the ones after them.
+fn print_scratch(scratch: &[u64]) {
     let zeros = end_of_numbers(scratch, 0, 0);
-    let zero_places = end_of_places(places, from, 0);
     space();
-    print(zeros as u64);
+    print_pair(
+        zeros as u64,
+        end_of_numbers(scratch, zeros, u64::MAX) as u64,
+    );
+}
+
+// The same, and of the places, behind the first k.
+fn print_left(k: u64, scratch: &[u64], places: &[u16]) {
+    print_scratch(scratch);
+    let zeros = end_of_places(places, k as usize, 0);
     space();
-    print(end_of_numbers(scratch, zeros, u64::MAX) as u64);
+    print_pair(zeros as u64, end_of_places(places, zeros, u16::MAX) as u64);
+}
+
+fn parts_of(found: Best) -> u64 {
+    match found {
+        Best::Chain {
+            position: _,
+            k,
+            price: _,
+        } => k,
+        Best::Refused(_) => 0,
+    }
+}
+
+// One call.
+fn tell_one(n: u64, l: Limits, scratch: &mut [u64], places: &mut [u16]) {
+    hold_ones(scratch);
+    hold_ones_in_places(places);
+    let found = best::best_chain(n, l, prices_of(0), scratch, places);
+    print_best(found, places);
+    print_left(parts_of(found), scratch, places);
+    end_line();
+}
+
+// Placing, after k parts were chosen.
+fn tell_placed(k: u64, scratch: &mut [u64], places: &[u16]) {
     space();
-    print(zero_places as u64);
-    space();
-    print(end_of_places(places, zero_places, u16::MAX) as u64);
+    match placed(k, scratch, places) {
+        Position::At(position) => print(position),
+        Position::Refused(r) => print(r as u64),
+    }
+    print_scratch(scratch);
+}
+
+// Choosing: how many parts were chosen, and 65 where it is refused.
+fn tell_chosen(n: u64, l: Limits, scratch: &mut [u64], places: &mut [u16]) -> u64 {
+    hold_ones(scratch);
+    hold_ones_in_places(places);
+    match best::choose_chain(n, l, prices_of(0), scratch, places) {
+        Chosen::Chain { k, price } => {
+            print_pair(k, price);
+            k
+        }
+        Chosen::Refused(r) => {
+            print(r as u64);
+            65
+        }
+    }
+}
+
+// Two calls.
+fn tell_two(n: u64, l: Limits, scratch: &mut [u64], places: &mut [u16]) {
+    let k = tell_chosen(n, l, scratch, places);
+    if k == 65 {
+        print_left(0, scratch, places);
+        end_line();
+        return;
+    }
+    print_places(k, places);
+    print_left(k, scratch, places);
+    tell_placed(k, scratch, places);
+    end_line();
 }
 
 fn tell_left(n: u64, l: Limits, scratch: &mut [u64], places: &mut [u16]) {
-    hold_ones(scratch);
-    hold_ones_in_places(places);
-    let chosen = best::best_chain(n, l, prices_of(0), scratch, places);
-    print_chosen(chosen, places);
-    print_left(chosen, scratch, places);
-    end_line();
+    tell_one(n, l, scratch, places);
+    tell_two(n, l, scratch, places);
 }
 
 // Eleven numbers under eight limits each.

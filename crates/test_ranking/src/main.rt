@@ -11,6 +11,7 @@ use libc::STDOUT_FILENO;
 use parts::Number;
 use ranking::Found;
 use ranking::Placed;
+use ranking::Position;
 use words::Written;
 ghost use mathlib.Core.Path.{_≡_};
 ghost use Prim.Native.Nat.{_≤_, _<_};
@@ -176,9 +177,10 @@ fn given_next(letters: &[u8], size: usize) -> Given
     }
 }
 
-// What reading a record told.
+// What reading a record told, and what placing it told.
 struct Told {
     placed: Placed,
+    position: Position,
     right: bool,
 }
 
@@ -187,8 +189,14 @@ fn told_record(numbers: &[u16], size: usize) -> Told
 {
     let mut scratch = full_scratch();
     let placed = ranking::read_record(numbers, &mut scratch[0..size]);
-    let right = is_left(&scratch, SCRATCH);
-    Told { placed, right }
+    let mut other = full_scratch();
+    let position = ranking::place_record(numbers, &mut other[0..size]);
+    let right = is_left(&scratch, SCRATCH) & is_left(&other, SCRATCH);
+    Told {
+        placed,
+        position,
+        right,
+    }
 }
 
 // ---- lines
@@ -266,12 +274,8 @@ fn tell_next(letters: &[u8], n: u64, next: u64, size: usize)
     mark(given.right);
 }
 
-// The record read: = where it tells n and the position.
-fn tell_record(numbers: &[u16], n: u64, position: u64, size: usize)
-    requires { ⌜ size ≤ 5248 ⌝ }
-{
-    let told = told_record(numbers, size);
-    let placed = told.placed;
+// What reading a record told: = where it is n and the position.
+fn print_read(placed: Placed, n: u64, position: u64) {
     match placed {
         Placed::At { n: a, position: b } => {
             if (a == n) & (b == position) {
@@ -285,6 +289,35 @@ fn tell_record(numbers: &[u16], n: u64, position: u64, size: usize)
             text(b" ");
         }
     }
+}
+
+// What placing it told: = where it is the position.
+fn print_position(told: Position, position: u64) {
+    match told {
+        Position::At(b) => {
+            if b == position {
+                text(b"= ");
+            } else {
+                print(b);
+                text(b" ");
+            }
+        }
+        Position::Refused(number) => {
+            print(number as u64);
+            text(b" ");
+        }
+    }
+}
+
+// The record read, and placed.
+fn tell_record(numbers: &[u16], n: u64, position: u64, size: usize)
+    requires { ⌜ size ≤ 5248 ⌝ }
+{
+    let told = told_record(numbers, size);
+    let read = told.placed;
+    let placed = told.position;
+    print_read(read, n, position);
+    print_position(placed, position);
     mark(told.right);
 }
 
@@ -509,15 +542,15 @@ fn tell_too_little(size: usize, count: usize)
     text(b"\n");
 }
 
-// The same of a record, which has no places, and a scratch of 511 numbers.
+// The same of a record, read and placed: no places are lent, and a scratch of 511 numbers.
 fn tell_small_record() {
     let mut scratch = full_scratch();
     let placed = ranking::read_record(&[9, 0], &mut scratch[0..511]);
-    match placed {
-        Placed::At { n, position } => print_placed(n, position),
-        Placed::Refused(number) => print(number as u64),
-    }
-    mark(is_left(&scratch, 0));
+    print_read(placed, 19, 3);
+    let mut other = full_scratch();
+    let position = ranking::place_record(&[9, 0], &mut other[0..511]);
+    print_position(position, 3);
+    mark(is_left(&scratch, 0) & is_left(&other, 0));
     text(b"\n");
 }
 

@@ -1,79 +1,75 @@
--- `best_chain` answers what its outcome says: where enough is lent it chooses a word, puts its part numbers in the places and
--- tells its position, or refuses with 5. The position is not refused: the scratch is large enough.
+-- `best_chain` tells what choosing and then placing tell, put together. Choosing gives at most 64 parts, and they stand in the places.
 use borrow.Author.Needs.{needs}
-use Rattle.lent.specs.LentLaws.{little-scratch, little-places}
 use Rattle.best.specs.Chosen.{limitsOf, pricesOf}
-use Rattle.best.specs.ChoosingLaws.{by-word, by-nothing}
-use Rattle.best.specs.ChosenLaws.{little, none-served, not-refused, word-served}
+use Rattle.best.specs.Placing.{together, refused-told, numbers-stand, placed-told}
 use Rattle.best.proofs.best_chain.Statement.{statement}
 use Rattle.best.proofs.best_chain.Tie as tie
 
+part-place-record-end : tie.Need-part-place-record-end
+part-place-record-end c =
+    let m = c .before .before in
+    let h = m .before .before .before .before .before .before in
+    let s = h .before .before .before .before .before in
+    let a = s .args in
+    numbers-stand (a .n) (limitsOf (a .limits)) (pricesOf (a .prices)) (s .fits .n .fits) _ _
+    (h .choose-chain .ensures .0) (h .choose-chain .ensures .1 .0) (h .choose-chain .ensures .1 .1) (m .k .given .1)
+
+returns : tie.Need-returns
+unfolding together
+returns c =
+    let y = c .before in
+    let q = y .before .before .before .before in
+    let m = q .before .before .before .before .before in
+    let h = m .before .before .before .before .before .before in
+    let s = h .before .before .before .before .before in
+    let a = s .args in
+    placed-told (a .n) (limitsOf (a .limits)) (pricesOf (a .prices)) (s .fits .n .fits) _ _
+    (h .choose-chain .ensures .0) (h .choose-chain .ensures .1 .0) (h .choose-chain .ensures .1 .1) (m .k .given .1)
+    (rw (y .position .given .1)) (q .place-record .ensures .0) (q .place-record .ensures .1)
+
+returns-2 : tie.Need-returns-2
+unfolding together
+returns-2 c =
+    let y = c .before in
+    let q = y .before .before .before .before in
+    let m = q .before .before .before .before .before in
+    let h = m .before .before .before .before .before .before in
+    let s = h .before .before .before .before .before in
+    let a = s .args in
+    placed-told (a .n) (limitsOf (a .limits)) (pricesOf (a .prices)) (s .fits .n .fits) _ _
+    (h .choose-chain .ensures .0) (h .choose-chain .ensures .1 .0) (h .choose-chain .ensures .1 .1) (m .k .given .1)
+    (rw (y .number .given .1)) (q .place-record .ensures .0) (q .place-record .ensures .1)
+
 returns-3 : tie.Need-returns-3
 returns-3 c =
-    let q = c .before .before .before .before in
-    let d = q .before .before .before .before .before .before .before in
-    let h = d .before .before .before .before in
-    let b = h .before .before in
-    let a = b .before .before .before .before .args in
-    absurd
-    (not-refused (pricesOf (a .prices)) (a .n) (limitsOf (a .limits))
-    {p = a .places .now} (record { numbers = b .before .if1 .left; room = b .if2 .left })
-    (h .choose .ensures .1)
-    (by-word _ _ _ _ (h .choose .ensures .0) (d .rises .given .1))
-    (q .position-of .ensures .0)
-    (c .enum-told .given .1))
-
-returns-4 : tie.Need-returns-4
-returns-4 c =
-    let v = c .before in
-    let q = v .before .before .before .before in
-    let t = q .before .before .before .before in
-    let d = t .before .before .before in
-    let h = d .before .before .before .before in
-    let b = h .before .before in
-    let a = b .before .before .before .before .args in
-    word-served (pricesOf (a .prices)) (a .n) (limitsOf (a .limits))
-    (record { numbers = b .before .if1 .left; room = b .if2 .left })
-    (h .choose .ensures .1)
-    (by-word _ _ _ _ (h .choose .ensures .0) (d .rises .given .1))
-    (q .position-of .ensures .0)
-    (v .position .given .1)
-    (t .put-parts .ensures .0)
-    (t .put-parts .ensures .1)
-    (q .position-of .ensures .1)
-
-returns-5 : tie.Need-returns-5
-returns-5 c =
-    let z = c .before .before in
-    let m = z .before .before in
-    let h = m .before .before .before .before in
-    let b = h .before .before in
-    let a = b .before .before .before .before .args in
-    none-served (pricesOf (a .prices)) (a .n) (limitsOf (a .limits))
-    (record { numbers = b .before .if1 .left; room = b .if2 .left })
-    (h .choose .ensures .1)
-    (by-nothing _ _ _ _ (h .choose .ensures .0) (m .enum-told2 .given .1))
-    (z .clear-scratch .ensures)
+    let m = c .before in
+    let h = m .before .before .before .before .before .before in
+    let s = h .before .before .before .before .before in
+    let a = s .args in (
+      refused-told (a .n) (limitsOf (a .limits)) (pricesOf (a .prices)) (s .fits .n .fits) _ _
+          (h .choose-chain .ensures .0) (h .choose-chain .ensures .1 .0) (h .choose-chain .ensures .1 .1) (m .number2 .given .1),
+      h .choose-chain .ensures .1,
+    )
 
 pub best-chain-spec : {M : Type 1} → statement M
 best-chain-spec =
     tie.close
     (tie.spec
-    (λ c. little _ _ _ _ (little-scratch 64 _ _ (c .if1 .taken)))
-    (λ c. little _ _ _ _ (little-places 64 _ _ (c .if2 .taken)))
-    (λ c κs. c .before .before .if1 .left)
-    (λ c. search needs)
-    (λ c κs. search needs)
     (λ c κs. search needs)
     (λ c. search needs)
     (λ c. search needs)
     (λ c. search needs)
-    (λ c. search needs)
-    returns-3
-    (λ c. search needs)
+    part-place-record-end
     (λ c κs. search needs)
     (λ c. search needs)
     (λ c. search needs)
-    returns-4
     (λ c. search needs)
-    returns-5)
+    (λ c. search needs)
+    (λ c. search needs)
+    returns
+    (λ c. search needs)
+    (λ c. search needs)
+    returns-2
+    (λ c. search needs)
+    (λ c. search needs)
+    returns-3)

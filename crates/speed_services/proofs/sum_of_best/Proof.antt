@@ -7,10 +7,10 @@ use Rattle.speed_services.proofs.sum_of_best.Statement.{statement}
 use Rattle.speed_services.proofs.sum_of_best.Tie as tie
 
 abbrev Inv-loop : tie.InvT-loop
-Inv-loop times scratch₀ x₀ sum₀ i₀ scratch x sum i = (length scratch ≡ length scratch₀) × (i ≤ times) × (sum < 2 ^ 64) × (x < 2 ^ 64)
+Inv-loop service times scratch₀ x₀ sum₀ i₀ scratch x sum i = (length scratch ≡ length scratch₀) × (i ≤ times) × (sum < 2 ^ 64) × (x < 2 ^ 64)
 
 abbrev μ-loop : tie.MeasureT-loop
-μ-loop times scratch₀ x₀ sum₀ i₀ scratch x sum i = times - i
+μ-loop service times scratch₀ x₀ sum₀ i₀ scratch x sum i = times - i
 
 pub sum-of-best-spec : {M : Type 1} → statement M
 sum-of-best-spec =

@@ -9,9 +9,9 @@ use lib.ListN.{length, take, length-take}
 use Rattle.lent.specs.Lent.{scratchSize}
 use Rattle.chains.specs.Best.{Prices, price, Limits}
 use Rattle.ranking.specs.Services.{Outcome, refused, gives, lent, placesLeft}
-use Rattle.best.specs.Chosen.{bestOutcome, chosenOf}
-use Rattle.best.specs.declared.Chosen.{Chosen}
-use Rattle.best.specs.declared.Chosen.the-variants as chosen
+use Rattle.best.specs.Chosen.{bestOutcome, bestOf}
+use Rattle.best.specs.declared.Best.{Best}
+use Rattle.best.specs.declared.Best.the-variants as best
 use Rattle.lines.specs.LineLaws.{field-fits}
 use Rattle.frames.specs.ReplyDigits.{pricedDigits}
 use Rattle.frames.specs.Replies.{refusedAs, servedWith, pricedReply, served}
@@ -21,14 +21,14 @@ use Rattle.frames.proofs.serve.serve_best.Statement.{statement}
 use Rattle.frames.proofs.serve.serve_best.Tie as tie
 
 -- It was asked for with the scratch s and the places p. x answered, and p′ was left in the places.
-module _ (n : ℕ) (lim : Limits) (π : Prices) (x : Chosen) (s p p′ : List ℕ) (numbers : scratchSize ≤ length s) (room : length p ≡ 64)
-    (e : x ≡ chosenOf (price π) (lent s p (bestOutcome n lim (price π)))) where
-  answer : x ≡ chosenOf (price π) (bestOutcome n lim (price π))
+module _ (n : ℕ) (lim : Limits) (π : Prices) (x : Best) (s p p′ : List ℕ) (numbers : scratchSize ≤ length s) (room : length p ≡ 64)
+    (e : x ≡ bestOf (price π) (lent s p (bestOutcome n lim (price π)))) where
+  answer : x ≡ bestOf (price π) (bestOutcome n lim (price π))
   answer = rw (own-outcome s p numbers room) at e
 
-  chosen-chain : (i k cost : ℕ) → x ≡ chosen.Chain i k cost → p′ ≡ placesLeft (lent s p (bestOutcome n lim (price π))) p → length p′ ≡ 64
+  chosen-chain : (i k cost : ℕ) → x ≡ best.Chain i k cost → p′ ≡ placesLeft (lent s p (bestOutcome n lim (price π))) p → length p′ ≡ 64
       → (k ≤ 64) × (pricedReply (price π) (bestOutcome n lim (price π)) ≡ servedWith (pricedDigits n i (take (k - 0) p′) cost))
-  unfolding chosenOf pricedReply
+  unfolding bestOf pricedReply
   chosen-chain i k cost f left h = go (bestOutcome n lim (price π)) refl
     where
       go : (o : Outcome) → bestOutcome n lim (price π) ≡ o
@@ -42,8 +42,8 @@ module _ (n : ℕ) (lim : Limits) (π : Prices) (x : Chosen) (s p p′ : List �
           let (fits, stand) = chain-left m c p p′ (rw (own-outcome s p numbers room, g) at left) h in
           (omega arith, rw (g, ← stand, size, sub-zero, best-number n lim π m c g) (cc (rw (best-number n lim π m c g) at a)))
 
-  chosen-refused : (r : ℕ) → x ≡ chosen.Refused r → pricedReply (price π) (bestOutcome n lim (price π)) ≡ refusedAs r
-  unfolding chosenOf pricedReply
+  chosen-refused : (r : ℕ) → x ≡ best.Refused r → pricedReply (price π) (bestOutcome n lim (price π)) ≡ refusedAs r
+  unfolding bestOf pricedReply
   chosen-refused r f = go (bestOutcome n lim (price π)) refl
     where
       go : (o : Outcome) → bestOutcome n lim (price π) ≡ o → pricedReply (price π) (bestOutcome n lim (price π)) ≡ refusedAs r
