@@ -93,9 +93,9 @@ uint8_t meltsjuk_best(uint64_t n, uint8_t parts_limit, uint8_t a_limit, uint8_t 
                       uint16_t s3, uint64_t *scratch, size_t scratch_length, uint16_t *places, size_t places_length,
                       uint64_t *position, uint64_t *k, uint64_t *price);
 
-/* Choosing: the chain that meltsjuk_best finds, without its position. It takes some two thirds of the time of meltsjuk_best.
+/* Choosing: the chain that meltsjuk_best finds, without its position. This takes about two thirds of the time of meltsjuk_best.
  *
- * Lent: as for meltsjuk_best, but for the position.
+ * Lent: as for meltsjuk_best, without the number for the position.
  * Answers MELTSJUK_SERVED with the number of parts and the price in *k and *price, and the part numbers in the places, as for
  * meltsjuk_best. Answers MELTSJUK_LITTLE_LENT or MELTSJUK_NONE_FITS otherwise, and the places and the two numbers are as they were. */
 uint8_t meltsjuk_choose(uint64_t n, uint8_t parts_limit, uint8_t a_limit, uint8_t b_limit, uint16_t d, uint16_t t, uint16_t s2,
@@ -103,10 +103,10 @@ uint8_t meltsjuk_choose(uint64_t n, uint8_t parts_limit, uint8_t a_limit, uint8_
                         uint64_t *k, uint64_t *price);
 
 /* Placing: the position of a chain in the list of n's chains, where n is the sum of its parts. After meltsjuk_choose, the first *k
- * places are such a chain, and this is the position that meltsjuk_best tells.
+ * places hold the part numbers of such a chain, and this is the position that meltsjuk_best tells.
  *
- * Lent: the chain's part numbers, largest part first, and where there are none the length is 0 and the pointer is not null; the
- * scratch, MELTSJUK_SCRATCH numbers or more; one number for the position.
+ * Lent: the chain's part numbers, largest part first, as meltsjuk_best gives them, and where there are none the length is 0 and the
+ * pointer is not null; the scratch, MELTSJUK_SCRATCH numbers or more; one number for the position.
  * Answers MELTSJUK_SERVED with the position in *position. Otherwise answers the first of these that holds, and *position is as it
  * was: MELTSJUK_LITTLE_LENT, MELTSJUK_NO_PART, MELTSJUK_NO_CHAIN, MELTSJUK_LARGE_SUM. */
 uint8_t meltsjuk_place(const uint16_t *numbers, size_t numbers_length, uint64_t *scratch, size_t scratch_length,

@@ -312,7 +312,7 @@ static void *refused_apart(void *scratch)
     const uint16_t none[3] = {PARTS - 1, PARTS - 1, PARTS}, same[2] = {PARTS - 1, PARTS - 1};
     const uint16_t large[2] = {PARTS - 1, 0}; /* the largest part and 1 sum to less than 2^64 */
     uint16_t twos[2] = {0, 0};
-    uint64_t k = 7, price = 7;
+    uint64_t position = 7, k = 7, price = 7;
 
     for (uint16_t i = 0; i < PARTS; i++) { /* 3 * 2^62 and 3 * 2^61 */
         if (parts_by_number[i].value == (uint64_t)3 << 62)
@@ -327,7 +327,7 @@ static void *refused_apart(void *scratch)
     place_refused(s, none, 3, MELTSJUK_NO_PART, "a number that no part has, placed");
     place_refused(s, same, 2, MELTSJUK_NO_CHAIN, "a part twice, placed");
     place_refused(s, twos, 2, MELTSJUK_LARGE_SUM, "3 * 2^62 and 3 * 2^61, placed");
-    must(meltsjuk_place(large, 2, s.numbers, s.length, &k) == MELTSJUK_SERVED, "the largest part and 1, placed");
+    must(meltsjuk_place(large, 2, s.numbers, s.length, &position) == MELTSJUK_SERVED, "the largest part and 1, placed");
     return NULL;
 }
 

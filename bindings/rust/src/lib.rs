@@ -187,8 +187,8 @@ pub struct Chain {
     pub parts: Vec<u16>,
 }
 
-/// Why a chain is not placed or run, a tree word not read or written, or a bench not opened or changed. `refusal as u8` is its number. Lines
-/// have further refusals, which [`Terminal::reply`] gives as digits.
+/// Why a chain is not placed or run, a tree word not read or written, or a bench not opened or changed. `refusal as u8` is its number.
+/// Lines have further refusals, which [`Terminal::reply`] gives as digits.
 #[derive(Clone, Copy, Debug, PartialEq, Eq)]
 pub enum Refusal {
     /// A part number is 1,344 or more, or there are more than 64 part numbers.
@@ -559,8 +559,8 @@ impl Terminal {
         }
     }
 
-    /// The chain that [`Terminal::best`] finds, without its position, which takes some two thirds of the time. [`Terminal::place`]
-    /// tells the position.
+    /// The chain that [`Terminal::best`] finds, without its position. This takes about two thirds of the time of `best`. None where no
+    /// chain is within the limits. [`Terminal::place`] tells the position.
     ///
     /// ```
     /// use meltsjuk::{Limits, Prices, Terminal};

@@ -4,7 +4,7 @@
 -- with the rows of keys in the scratch ask and give.
 use mathlib.Core.Path.{_≡_, refl, sym, subst, _∙_}
 use mathlib.Core.Bool.{true}
-use mathlib.Core.List.{List, [], List·Memᴰ}
+use mathlib.Core.List.{List, []}
 use mathlib.Core.Option.{Option, none, some}
 use Prim.Native.Nat.{ℕ, _*_, _+_, _/_, _%_, _^_, _≤_, _<_, min}
 use native.Mathlib.Omega.{arith}
@@ -14,7 +14,7 @@ use borrow.Author.Tests.{le-leb, lt-leb}
 use Rattle.lent.specs.Lent.{scratchSize}
 use Rattle.chains.specs.Chains.{Part, ChainOf}
 use Rattle.chains.specs.Words.{Word, origin, chainFrom, chainOf, reads}
-use Rattle.chains.specs.Listing.{wordsAt, listOf}
+use Rattle.chains.specs.Listing.{wordsAt}
 use Rattle.chains.specs.Best.{Prices, price, Limits, bestChain}
 use Rattle.chains.specs.BestLaws.{best-of-zero}
 use Rattle.chains.specs.Weight.{weight, total-chainOf}
@@ -157,7 +157,11 @@ module _ {costs : List ℕ} {n : ℕ} {lim : Limits} {π : Prices} {entry : List
       pub word-asked : KeyStart costs (lim .A) (lim .B) n l
       word-asked =
           record {
-            turned = record { size = f .keys .rows .size; turns = λ r k. f .keys .turns r (omega arith) k };
+            turned = record {
+              size = f .keys .rows .size;
+              rests = f .keys .rows .rests;
+              turns = λ r k. f .keys .turns r (omega arith) k;
+            };
             some-left = b .some-left;
             found = found;
           }

@@ -35,12 +35,12 @@ orNone n (some c) = gives n c
 unfoldable pub bestOutcome : ℕ → Limits → (List Part → ℕ) → Outcome
 bestOutcome n lim cost = orNone n (bestChain n lim cost)
 
--- Choosing tells how many parts and the cost, or the refusal;
+-- Choosing tells how many parts there are and what they cost, or the refusal;
 unfoldable pub chosenOf : (List Part → ℕ) → Outcome → Chosen
 chosenOf cost (refused r) = chosen.Refused r
 chosenOf cost (gives n c) = chosen.Chain (length c) (cost c)
 
--- the best chain the position too.
+-- the best chain tells the position too.
 unfoldable pub bestOf : (List Part → ℕ) → Outcome → Best
 bestOf cost (refused r) = best.Refused r
 bestOf cost (gives n c) = best.Chain (position n c) (length c) (cost c)

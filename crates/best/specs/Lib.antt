@@ -4,7 +4,7 @@
 -- What the contracts of the private functions name; the laws of X are in XLaws:
 --   KeyTable  the least key at a point, what a row of keys holds of it, and the turns of a row
 --   KeyRows   what the calls that fill the rows of keys ask and leave
---   Walk      the walk along the turns that finds the best word
+--   Walk      the walk along the turns that finds the best word (TurnLaws: where a row of it turns)
 --   Choosing  the word of the best chain within limits
 pub mod Chosen
 pub mod KeyTable
@@ -12,6 +12,7 @@ pub mod KeyTableLaws
 pub mod KeyRows
 pub mod KeyRowsLaws
 pub mod Walk
+pub mod TurnLaws
 pub mod WalkLaws
 pub mod Choosing
 pub mod ChoosingLaws

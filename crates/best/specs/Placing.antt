@@ -3,7 +3,6 @@
 -- In this order: the two answers put together; that they are the best chain's answer (`choose-then-place`); how `best_chain` comes to
 -- its answer by calling both.
 use mathlib.Core.Path.{_≡_, refl, sym, ap, _∙_}
-use mathlib.Core.Bool.{false}
 use mathlib.Core.List.{List, [], map}
 use Prim.Native.Nat.{ℕ, _-_, _^_, _≤_, _<_}
 use native.Mathlib.Nat.{sub-zero}
@@ -43,7 +42,7 @@ together (chosen.Refused r) x = best.Refused r
 -- ---- choosing, then placing
 
 module _ (n : ℕ) (lim : Limits) (π : Prices) (fits : n < 2 ^ 64) where
-  -- What both services are asked for, where s and p are lent.
+  -- What choosing and the best chain are asked for, where s and p are lent.
   abbrev asked : List ℕ → List ℕ → Outcome
   asked s p = lent s p (bestOutcome n lim (price π))
 
@@ -113,6 +112,7 @@ module _ (n : ℕ) (lim : Limits) (π : Prices) (fits : n < 2 ^ 64) where
             let h = chain-left .0 in
             let zeroed = enough-zeroed 64 s p h in
             let u : OnlyFirst scratchSize s s′ = rw (left, zeroed) (used-filled scratchSize s (h .numbers)) in
-            let both : together (chosen.Chain k cost) (positionOf (lentScratch s′ (ofRecord (take k p′)))) ≡ bestOf (price π) (asked s p) =
+            let both :
+            together (chosen.Chain k cost) (positionOf (lentScratch s′ (ofRecord (take k p′)))) ≡ bestOf (price π) (asked s p) =
             rw (← answer, e, ← places) at (choose-then-place s p s′ (omega (arith, u .same, h .numbers))) in
             (er ∙ rw (ey, sub-zero k) both, (places, es ∙ used-left (h .numbers) u ∙ sym zeroed))

@@ -1,32 +1,36 @@
 -- The walk along the turns of the rows of keys finds the best word, letter by letter: by the letter that the smaller key follows,
--- the first where both keys are equal.
+-- the first where both keys are equal. It passes the letters of a row at once.
 --
--- In this order: a letter before a word; the laws by which the walk starts and goes on; the bits of the letters that it passes.
-use mathlib.Core.Path.{_≡_, refl, sym, subst, _∙_}
+-- In this order: a letter before a word; the laws by which the walk starts and passes a letter; the bits of the letters that it
+-- passes; the laws by which it passes a row at once; its start and its end, by columns. Where a row turns is in TurnLaws.
+use mathlib.Core.Path.{_≡_, refl, sym, ap, subst, _∙_}
 use mathlib.Core.Bool.{Bool, true, false, cond}
 use mathlib.Core.List.{List, [], _∷_}
 use mathlib.Core.Option.{Option, none, some, Option·none-ne-some}
-use Prim.Native.Nat.{ℕ, zero, suc, _+_, _*_, _/_, _%_, _^_, _≤_, _<_, min}
-use native.Mathlib.Nat.{lt-of-not-le, pow-suc}
-use native.Mathlib.Numerals.{add-one}
+use Prim.Native.Nat.{ℕ, zero, suc, _+_, _*_, _/_, _%_, _^_, _-_, _≤_, _<_, min}
+use native.Mathlib.Nat.{add-zero, le-div-iff-mul-le, lt-of-not-le, mod-eq-of-lt, mul-assoc, pow-suc}
+use native.Mathlib.Numerals.{add-one, one-add}
 use native.Mathlib.Omega.{arith}
+use lib.Bits.{bitAnd, and-high}
 use lib.Dec.{T, eqb}
 use lib.ListN.{getD, drop}
-use lib.Pow.{pow-mono}
+use lib.Pow.{pow-add, pow-mono, pow-pos, mod-pow-add, shr-shr}
 use lib.Seq.{drop-drop}
-use borrow.Author.Tests.{eqb-true, eqb-false}
+use borrow.Author.Tests.{eqb-true, eqb-false, ne-eqb}
 use Rattle.chains.specs.Chains.{Part}
 use Rattle.chains.specs.Words.{Word, origin, right, up}
 use Rattle.chains.specs.Members.{rises}
 use Rattle.chains.specs.Keys.{inside}
 use Rattle.chains.specs.Bests.{lead, keyA, rises-low, third-left, best-one, take-a, take-b, least-told}
-use Rattle.grid.specs.Grid.{restAt}
-use Rattle.grid.specs.Rests.{rest-origin, rest-right, rest-up, point-bounds}
+use Rattle.grid.specs.Grid.{restAt, restsPlace}
+use Rattle.grid.specs.Masks.{onesOf}
+use Rattle.grid.specs.MaskLaws.{ones-bit}
+use Rattle.grid.specs.Rests.{row-above, rest-origin, rest-right, rest-up, point-bounds}
 use Rattle.words.specs.Packed.{bits, rise, mark}
 use Rattle.best.specs.KeyTable.{noKey, letterBy, costsBy, keyCell, thirdKey, halfKey, less}
 use Rattle.best.specs.KeyTableLaws.{less-one, less-zero, half-key, cell-step}
 use Rattle.best.specs.Walk.{Turned, risesBy, bestFrom, wordIn, bestWord, KeyWalked, KeyRisen, KeyStep, KeyStart}
-use Rattle.best.specs.Walk.{FirstBits, KeyTelling}
+use Rattle.best.specs.Walk.{FirstBits, KeyTelling, ColumnAsked, TurnFrom, ColumnFound, WalkedTo, RowWalk}
 
 -- ---- a letter before a word
 
@@ -49,7 +53,7 @@ pub best-chosen : (costs : List ℕ) (A B n : ℕ) → keyCell costs A B 0 0 tru
 unfolding bestWord wordIn
 best-chosen costs A B n low = rw (least-told noKey (costsBy costs) A B true origin n low .1)
 
-pub walk-start : {costs : List ℕ} {A B n : ℕ} {scratch : List ℕ} → KeyStart costs A B n scratch
+walk-start : {costs : List ℕ} {A B n : ℕ} {scratch : List ℕ} → KeyStart costs A B n scratch
     → KeyTelling costs A B n 0 0 true n 0 0
 walk-start {costs} {A} {B} {n} s =
     record {
@@ -67,7 +71,7 @@ walk-start {costs} {A} {B} {n} s =
 -- ---- a step
 
 -- What a step asks holds where a letter after the next is left.
-pub step-asked : {costs : List ℕ} {A B n a b : ℕ} {free : Bool} {rest : ℕ} {scratch : List ℕ} → Turned costs A B n scratch
+step-asked : {costs : List ℕ} {A B n a b : ℕ} {free : Bool} {rest : ℕ} {scratch : List ℕ} → Turned costs A B n scratch
     → KeyWalked costs A B n a b free rest → 2 ≤ rest → n < 2 ^ 64 → KeyStep costs A B n scratch a b free rest
 step-asked {n = n} {a = a} {b = b} t w more fits =
     let l = point-bounds n a b fits (rw (w .here) at (w .some-left)) in
@@ -171,7 +175,7 @@ module _
         }
 
     -- a rises where b does not.
-    pub step-a : risesBy free (rest % 3) turns ≡ false → KeyRisen costs A B n a b (rest % 2) (a + 1) b false (rest / 2)
+    step-a : risesBy free (rest % 3) turns ≡ false → KeyRisen costs A B n a b (rest % 2) (a + 1) b false (rest / 2)
     unfolding right
     step-a h =
         let w = s .walked in
@@ -200,7 +204,7 @@ module _
           go true t q = omega arith
           go false t q = absurd t
 
-      pub step-b : KeyRisen costs A B n a b (2 + rest % 3) a (b + 1) true (rest / 3)
+      step-b : KeyRisen costs A B n a b (2 + rest % 3) a (b + 1) true (rest / 3)
       step-b =
           risen (2 + rest % 3) true a (b + 1) (rest / 3) (rw add-one (raised .1))
           (omega arith, omega (arith, rises-low free (rest % 3) (raised .0)))
@@ -252,10 +256,10 @@ module _
           × (marks + l % 2 * 2 ^ (a + b) % 2 ^ 64 < 2 ^ 64)
       mark-fits = bit-fits (a + b) marks (l % 2) (t .low) (t .marking .few) (omega arith)
 
-      pub more-fits : (rises + l / 2 * 2 ^ (a + b) % 2 ^ 64 < 2 ^ 64) × (marks + l % 2 * 2 ^ (a + b) % 2 ^ 64 < 2 ^ 64)
+      more-fits : (rises + l / 2 * 2 ^ (a + b) % 2 ^ 64 < 2 ^ 64) × (marks + l % 2 * 2 ^ (a + b) % 2 ^ 64 < 2 ^ 64)
       more-fits = (rise-fits .2, mark-fits .2)
 
-      pub telling-more : n < 2 ^ 64
+      telling-more : n < 2 ^ 64
           → KeyTelling costs A B n a′ b′ free′ rest′ (rises + l / 2 * 2 ^ (a + b) % 2 ^ 64) (marks + l % 2 * 2 ^ (a + b) % 2 ^ 64)
       telling-more fits =
           rw (rise-fits .0, mark-fits .0)
@@ -267,7 +271,7 @@ module _
           })
 
     -- and the last one.
-    pub last-fits : (rises + 1 * 2 ^ (a + b) % 2 ^ 64 < 2 ^ 64) × (marks + 1 * 2 ^ (a + b) % 2 ^ 64 < 2 ^ 64)
+    last-fits : (rises + 1 * 2 ^ (a + b) % 2 ^ 64 < 2 ^ 64) × (marks + 1 * 2 ^ (a + b) % 2 ^ 64 < 2 ^ 64)
     last-fits = (
       bit-fits (a + b) rises 1 (t .low) (t .rising .few) (omega arith) .2,
       bit-fits (a + b) marks 1 (t .low) (t .marking .few) (omega arith) .2,
@@ -283,9 +287,238 @@ module _
           end (inside A B (record { a = a; b = b })) (drop (a + b) (bestWord costs A B n))
           (sym (best-one (costsBy costs) A B free (record { a = a; b = b })) ∙ rw one at (t .walked .follows))
 
-      pub telling-end : (rises + 1 * 2 ^ (a + b) % 2 ^ 64 ≡ bits rise (bestWord costs A B n))
+      telling-end : (rises + 1 * 2 ^ (a + b) % 2 ^ 64 ≡ bits rise (bestWord costs A B n))
           × (marks + 1 * 2 ^ (a + b) % 2 ^ 64 ≡ bits mark (bestWord costs A B n))
       telling-end =
           let e : 1 * 2 ^ (a + b) % 2 ^ 64 ≡ 2 ^ (a + b) =
           omega (arith, bit-fits (a + b) rises 1 (t .low) (t .rising .few) (omega arith) .0) in
           rw e (bits-last (t .rising) last refl, bits-last (t .marking) last refl)
+
+-- ---- a row at once
+
+-- The same point, told by other numbers.
+telling-same : {costs : List ℕ} {A B n a b a′ : ℕ} {free free′ : Bool} {rest rest′ x x′ y y′ : ℕ}
+    → KeyTelling costs A B n a b free rest x y → a ≡ a′ → free ≡ free′ → rest ≡ rest′ → x ≡ x′ → y ≡ y′
+    → KeyTelling costs A B n a′ b free′ rest′ x′ y′
+telling-same t ea ef er ex ey = rw (← ea, ← ef, ← er, ← ex, ← ey) t
+
+-- No bit of a rest, and one more.
+no-bits : (r : ℕ) → r % 2 ^ 0 ≡ 0
+no-bits r = let e : r % 1 ≡ 0 = omega arith in e
+
+rest-bits : (r j k : ℕ) → r % 2 ^ j * 2 ^ k + r / 2 ^ j % 2 * 2 ^ (j + k) ≡ r % 2 ^ suc j * 2 ^ k
+rest-bits r j k =
+    let e : r % 2 ^ suc j ≡ r / 2 ^ j % 2 * 2 ^ j + r % 2 ^ j = rw one-add at (mod-pow-add r 1 j) in
+    rw (e, pow-add 2 j k) (omega arith)
+
+-- Where b rises in none of j columns, they are passed at once.
+module _ {costs : List ℕ} {A B n a b rises marks : ℕ} {scratch : List ℕ} (turned : Turned costs A B n scratch) (fits : n < 2 ^ 64)
+    (t : KeyTelling costs A B n a b true (restAt n a b) rises marks)
+  where
+    pass-columns : (j : ℕ)
+        → ((i : ℕ) → i < j → (2 ≤ restAt n (a + i) b)
+        × (risesBy (eqb i 0) (restAt n (a + i) b % 3) (getD scratch (128 + b) 0 / 2 ^ (a + i)) ≡ false))
+        → KeyTelling costs A B n (a + j) b (eqb j 0) (restAt n (a + j) b) rises (marks + restAt n a b % 2 ^ j * 2 ^ (a + b))
+    pass-columns zero h = telling-same t (omega arith) refl (rw add-zero) refl (rw no-bits (omega arith))
+    pass-columns (suc j) h =
+        let before = pass-columns j (λ i u. h i (omega arith)) in
+        let k = h j (omega arith) in
+        let r = step-a (step-asked turned (before .walked) (k .0) fits) (k .1) in
+        let none : restAt n (a + j) b % 2 / 2 ≡ 0 = omega arith in
+        let once : restAt n (a + j) b % 2 % 2 ≡ restAt n a b / 2 ^ j % 2 = rw (← shr-shr (n / 3 ^ b) a j) (omega arith) in
+        let at : a + j + b ≡ j + (a + b) = omega arith in
+        let next : a + j + 1 ≡ a + suc j = omega arith in
+        telling-same (telling-more before r fits) next (sym (ne-eqb (suc j) 0 (λ e. omega arith)))
+        (sym (rest-right n (a + j) b) ∙ rw next)
+        (rw none (omega arith))
+        (rw (mark-fits before r .0, once, at) (omega (arith, rest-bits (restAt n a b) j (a + b))))
+
+-- Bits at the index of a letter.
+shifted : (x a b : ℕ) → x * 2 ^ a * 2 ^ b ≡ x * 2 ^ (a + b)
+shifted x a b = mul-assoc x (2 ^ a) (2 ^ b) ∙ rw (pow-add 2 a b)
+
+-- The letters of the columns from a up to but without a + j are the bits of m there. The letter by which b rises is odd where the
+-- remainder by three is 1.
+column-letters : (m a j b to column : ℕ) → to ≡ 2 ^ (a + j) → column ≡ 2 ^ a
+    → bitAnd m (to - column) * 2 ^ b ≡ m / 2 ^ a % 2 ^ j * 2 ^ (a + b)
+column-letters m a j b to column e d =
+    let f : a + j ≡ j + a = omega arith in
+    rw (e, d, f, and-high m j a) (shifted (m / 2 ^ a % 2 ^ j) a b)
+
+turn-letter : (m k b to : ℕ) → to ≡ 2 ^ k → bitAnd (onesOf m (m / 3)) to * 2 ^ b ≡ m / 2 ^ k % 3 % 2 * 2 ^ (k + b)
+turn-letter m k b to e =
+    let ones = onesOf m (m / 3) in
+    let p : 2 ^ k ≡ 2 ^ (1 + k) - 2 ^ k = rw one-add (omega (arith, pow-suc 2 k)) in
+    let bit : bitAnd ones (2 ^ k) ≡ ones / 2 ^ k % 2 * 2 ^ k = ap (λ x. bitAnd ones x) p ∙ and-high ones 1 k in
+    rw (e, bit, ones-bit m k) (shifted (m / 2 ^ k % 3 % 2) k b)
+
+turn-rise : (k b to : ℕ) → to ≡ 2 ^ k → to * 2 ^ b ≡ 1 * 2 ^ (k + b)
+turn-rise k b to e = rw (e, pow-add 2 k b) (omega arith)
+
+-- The rest in column k is 2 or more where 2^k is at most half of m.
+two-or-more : (m k column : ℕ) → column ≡ 2 ^ k → column ≤ m / 2 → 2 ≤ m / 2 ^ k
+two-or-more m k column e h = le-div-iff-mul-le (pow-pos k) .1 (omega arith)
+
+at-most-one : (m k column : ℕ) → column ≡ 2 ^ k → m / 2 < column → 2 ≤ m / 2 ^ k → ⊥
+at-most-one m k column e h two = omega (arith, le-div-iff-mul-le {x = 2} {y = m} (pow-pos k) .0 two)
+
+-- Row b turns in the column `to`.
+module _ {costs : List ℕ} {A B n column b rises marks : ℕ} {scratch : List ℕ} (s : RowWalk costs A B n scratch column b rises marks)
+    (fits : n < 2 ^ 64)
+  where
+    abbrev w : WalkedTo costs A B n column b rises marks
+    w = s .walked
+
+    two-here : 2 ≤ restAt n (w .a) b
+    two-here = two-or-more (n / 3 ^ b) (w .a) column (w .is) (s .more)
+
+    pub row-low : b < 41
+    row-low = point-bounds n (w .a) b fits (omega (arith, two-here)) .1
+
+    -- The rests that the code reads.
+    pub rest-here : getD scratch (448 + b) 0 ≡ n / 3 ^ b
+    rest-here = s .turned .rests b (omega (arith, row-low))
+
+    rest-above : getD scratch (449 + b) 0 ≡ n / 3 ^ (b + 1)
+    rest-above =
+        let e : restsPlace + (b + 1) ≡ 449 + b = omega arith in
+        rw e at (s .turned .rests (b + 1) (omega (arith, row-low)))
+
+    telling-free : KeyTelling costs A B n (w .a) b true (restAt n (w .a) b) rises marks
+    telling-free = telling-same (w .telling) refl (w .fresh two-here) refl refl refl
+
+    pub column-asked : ColumnAsked (getD scratch (448 + b) 0) (getD scratch (449 + b) 0) column
+    column-asked =
+        record {
+          third = rw (rest-here, rest-above, add-one) (sym (row-above n b));
+          a = w .a;
+          is = w .is;
+          left = rw rest-here (omega (arith, s .more));
+        }
+
+    module _ {to : ℕ} (turn : TurnFrom (n / 3 ^ b) (getD scratch (128 + b) 0) (w .a) to) where
+      abbrev k : ℕ
+      k = w .a + turn .j
+
+      -- The bits of the letters that are passed.
+      abbrev letters : ℕ
+      letters = bitAnd (n / 3 ^ b) (to - column) * 2 ^ b
+
+      passed : KeyTelling costs A B n k b (eqb (turn .j) 0) (restAt n k b) rises (marks + letters)
+      passed =
+          telling-same (pass-columns (s .turned) fits telling-free (turn .j) (turn .passed)) refl refl refl refl
+          (ap (λ (x : ℕ). marks + x) (sym (column-letters (n / 3 ^ b) (w .a) (turn .j) b to column (turn .is) (w .is))))
+
+      letters-fit : (letters % 2 ^ 64 ≡ letters) × (marks + letters < 2 ^ 64)
+      letters-fit =
+          let p : 2 ^ (k + b) ≤ 2 ^ 64 = pow-mono {j = 64} (omega (arith, passed .low)) in
+          let x : letters < 2 ^ 64 = omega (arith, passed .marking .few) in
+          (mod-eq-of-lt x, omega (arith, passed .marking .few))
+
+      ended : n / 3 ^ b / 2 < to → WalkedTo costs A B n to b rises (marks + letters)
+      ended h =
+          record {
+            a = k;
+            free = eqb (turn .j) 0;
+            is = turn .is;
+            telling = passed;
+            fresh = λ two. absurd (at-most-one (n / 3 ^ b) k to (turn .is) h two);
+          }
+
+      -- The bit of the letter by which b rises.
+      abbrev odd : ℕ
+      odd = bitAnd (onesOf (n / 3 ^ b) (n / 3 ^ b / 3)) to * 2 ^ b
+
+      module _ (h : to ≤ n / 3 ^ b / 2) where
+        two : 2 ≤ restAt n k b
+        two = two-or-more (n / 3 ^ b) k to (turn .is) h
+
+        raised-to : KeyRisen costs A B n k b (2 + restAt n k b % 3) k (b + 1) true (restAt n k b / 3)
+        raised-to = step-b (step-asked (s .turned) (passed .walked) two fits) (turn .turned two)
+
+        rise-is : (2 + restAt n k b % 3) / 2 * 2 ^ (k + b) ≡ to * 2 ^ b
+        rise-is =
+            let e : (2 + restAt n k b % 3) / 2 ≡ 1 = omega (arith, raised-to .small) in
+            rw e (sym (turn-rise k b to (turn .is)))
+
+        mark-is : (2 + restAt n k b % 3) % 2 * 2 ^ (k + b) ≡ odd
+        mark-is =
+            let e : (2 + restAt n k b % 3) % 2 ≡ restAt n k b % 3 % 2 = omega arith in
+            rw e (sym (turn-letter (n / 3 ^ b) k b to (turn .is)))
+
+        up-fits : (rises + to * 2 ^ b % 2 ^ 64 < 2 ^ 64) × (marks + letters + odd % 2 ^ 64 < 2 ^ 64)
+        up-fits = rw (rise-is, mark-is) at (more-fits passed raised-to)
+
+        up-to : WalkedTo costs A B n to (b + 1) (rises + to * 2 ^ b % 2 ^ 64) (marks + letters + odd % 2 ^ 64)
+        up-to =
+            record {
+              a = k;
+              free = true;
+              is = turn .is;
+              telling =
+                  telling-same (telling-more passed raised-to fits) refl refl (sym (rest-up n k b))
+                  (ap (λ (x : ℕ). rises + x % 2 ^ 64) rise-is)
+                  (ap (λ (x : ℕ). marks + letters + x % 2 ^ 64) mark-is);
+              fresh = λ t. refl;
+            }
+
+    -- As the code tells it, which reads the rests of row b and of the row above.
+    abbrev m : ℕ
+    m = getD scratch (448 + b) 0
+
+    abbrev q : ℕ
+    q = getD scratch (449 + b) 0
+
+    module _ {to : ℕ} (f : ColumnFound m (getD scratch (128 + b) 0) column to) where
+      turned-at : TurnFrom (n / 3 ^ b) (getD scratch (128 + b) 0) (w .a) to
+      turned-at = rw rest-here at (f (w .a) (w .is))
+
+      third-is : q ≡ n / 3 ^ b / 3
+      third-is = rw (rest-above, add-one) (sym (row-above n b))
+
+      pub not-back : column ≤ to
+      not-back = rw (w .is, turned-at .is) (pow-mono (omega arith))
+
+      pub marks-fit : marks + bitAnd m (to - column) * 2 ^ b % 2 ^ 64 < 2 ^ 64
+      marks-fit = rw (rest-here, letters-fit turned-at .0) (letters-fit turned-at .1)
+
+      pub row-ended : m / 2 < to → WalkedTo costs A B n to b rises (marks + bitAnd m (to - column) * 2 ^ b % 2 ^ 64)
+      row-ended h = let h′ = rw rest-here at h in rw (rest-here, letters-fit turned-at .0) (ended turned-at h′)
+
+      pub row-fits : to ≤ m / 2 → (rises + to * 2 ^ b % 2 ^ 64 < 2 ^ 64)
+          × (marks + bitAnd m (to - column) * 2 ^ b % 2 ^ 64 + bitAnd (onesOf m q) to * 2 ^ b % 2 ^ 64 < 2 ^ 64)
+      row-fits h = let h′ = rw rest-here at h in rw (rest-here, third-is, letters-fit turned-at .0) (up-fits turned-at h′)
+
+      pub row-risen : to ≤ m / 2
+          → WalkedTo costs A B n to (b + 1) (rises + to * 2 ^ b % 2 ^ 64)
+          (marks + bitAnd m (to - column) * 2 ^ b % 2 ^ 64 + bitAnd (onesOf m q) to * 2 ^ b % 2 ^ 64)
+      row-risen h = let h′ = rw rest-here at h in rw (rest-here, third-is, letters-fit turned-at .0) (up-to turned-at h′)
+
+-- ---- the start and the end, by columns
+
+pub walk-begun : {costs : List ℕ} {A B n : ℕ} {scratch : List ℕ} → KeyStart costs A B n scratch → WalkedTo costs A B n 1 0 0 0
+walk-begun {n = n} s =
+    record {
+      a = 0;
+      free = true;
+      is = refl;
+      telling = telling-same (walk-start s) refl refl (sym (rest-origin n)) refl refl;
+      fresh = λ t. refl;
+    }
+
+module _ {costs : List ℕ} {A B n column b rises marks : ℕ} (w : WalkedTo costs A B n column b rises marks) (fits : n < 2 ^ 64) where
+  pub walk-low : b < 41
+  walk-low = point-bounds n (w .a) b fits (w .telling .walked .some-left) .1
+
+  last-is : column * 2 ^ b ≡ 1 * 2 ^ (w .a + b)
+  last-is = turn-rise (w .a) b column (w .is)
+
+  pub ends-fit : (rises + column * 2 ^ b % 2 ^ 64 < 2 ^ 64) × (marks + column * 2 ^ b % 2 ^ 64 < 2 ^ 64)
+  ends-fit = rw last-is (last-fits (w .telling))
+
+  pub walk-ended : n / 3 ^ b / 2 < column
+      → (rises + column * 2 ^ b % 2 ^ 64 ≡ bits rise (bestWord costs A B n))
+      × (marks + column * 2 ^ b % 2 ^ 64 ≡ bits mark (bestWord costs A B n))
+  walk-ended h =
+      let one : restAt n (w .a) b < 2 = lt-of-not-le (at-most-one (n / 3 ^ b) (w .a) column (w .is) h) in
+      rw last-is (telling-end (w .telling) (omega arith))

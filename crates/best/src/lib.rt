@@ -86,8 +86,8 @@ pub fn choose_chain(
     }
 }
 
-// The best chain with its position: chooses it, and places the chain that then stands in the places. What is lent, refused and
-// left behind is as for `choose_chain`.
+// The best chain with its position: `choose_chain` finds it, and `ranking::place_record` tells the position of the parts that it left
+// in the places. What is lent, refused and left behind is as for `choose_chain`.
 pub fn best_chain(
     n: u64,
     limits: Limits,

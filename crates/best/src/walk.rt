@@ -1,8 +1,11 @@
-// The walk along the turns of the rows of keys that finds the best word. It goes along the letters of the word, from the point
-// (0, 0) up; the next letter's index is a + b.
+// The walk along the turns of the rows of keys that finds the best word. It goes from the point (0, 0) up, row by row: in a row it
+// passes all columns in which a rises at once, up to the one in which b rises. The letter at the point (a, b) has the index a + b.
+//
+// The column a is kept as the number 2^a: so a row is read by masks, and no shift waits for the column found in the row before.
 ghost use mathlib.Core.Path.{_≡_};
+ghost use Prim.Native.Nat.{_+_, _<_};
 ghost use Rattle.words.specs.Packed.{bits, rise, mark};
-ghost use Rattle.best.specs.Walk.{bestWord, risesBy, KeyStep, KeyRisen, KeyStart};
+ghost use Rattle.best.specs.Walk.{bestWord, KeyStart, ColumnAsked, ColumnFound, WalkedTo, RowWalk};
 
 // A word in two numbers, one bit a letter. The first letter has the lowest bit. A bit of `rises` is 1 where the letter is 2 or 3, a
 // bit of `marks` where it is 1 or 3.
@@ -11,31 +14,30 @@ pub struct Bits {
     pub marks: u64,
 }
 
-// A point of the walk: which reader goes on there, the rest, and the letter passed last.
+// A point of the walk, whose column is 2^a, and the bits of the letters before it.
 struct Walk {
-    a: usize,
+    column: u64,
     b: usize,
-    free: bool,
-    rest: u64,
-    letter: u8,
+    rises: u64,
+    marks: u64,
 }
 
-// Whether b rises, where the last bit of `bits` is the turn of the free reader. At the remainder 1 by three both readers turn
-// alike; elsewhere the reader after a has risen does not let b rise.
-fn rises_b(free: bool, rem: u64, bits: u64) -> bool
-    ensures { λ r. ⌜ r ≡ risesBy free rem bits ⌝ }
+// The first column from `column` on in which b rises, or the row's last one, whose rest is 1. m and q are the rests of the first
+// columns of the row and of the row above. In `column` the reader is the free one, and b rises by the turn. In a later one a has
+// risen before, so b rises only where the remainder by three is 1 too. It is the lowest one bit, once those below `column` are cut
+// off.
+fn turn_column(m: u64, q: u64, turns: u64, column: u64) -> u64
+    requires { ⌜ ColumnAsked m q column ⌝ }
+    ensures { λ r. ⌜ ColumnFound m turns column r ⌝ }
 {
-    if bits % 2 == 0 {
-        return false;
-    }
-    if rem == 1 {
-        return true;
-    }
-    free
+    let last = 1 << (63 - u64::leading_zeros(m));
+    let found = (turns & (grid::ones(m, q) | column)) | last;
+    1 << u64::trailing_zeros(found & !(column - 1))
 }
 
-// One letter of the walk.
-fn walk_step(
+// One row of the walk. The letters of the columns that it passes are the bits of m there. Where it is not the end, b rises by the
+// letter 2 or 3: 3 where the remainder by three is 1.
+fn walk_row(
     n: u64,
     scratch: &[u64],
     costs: &[u64; 5],
@@ -43,32 +45,34 @@ fn walk_step(
     triplings: usize,
     w: Walk,
 ) -> Walk
-    requires { ⌜ KeyStep (now costs) doublings triplings n (now scratch) (w .a) (w .b) (w .free) (w .rest) ⌝ }
-    ensures { λ r. ⌜ KeyRisen (now (costs .entry)) doublings triplings n (w .a) (w .b)
-        (r .letter) (r .a) (r .b) (r .free) (r .rest) ⌝ }
+    requires { ⌜ RowWalk (now costs) doublings triplings n (now scratch) (w .column) (w .b) (w .rises) (w .marks) ⌝ }
+    ensures { λ r. ⌜ WalkedTo (now (costs .entry)) doublings triplings n (r .column) (r .b) (r .rises) (r .marks) ⌝ }
+    ensures { λ r. ⌜ w .column + w .b < r .column + r .b ⌝ }
 {
-    let a = w.a;
     let b = w.b;
-    let rest = w.rest;
-    if rises_b(w.free, rest % 3, scratch[128 + b] >> a) {
+    let m = scratch[448 + b];
+    let q = scratch[449 + b];
+    let column = turn_column(m, q, scratch[128 + b], w.column);
+    let rises = w.rises;
+    let marks = w.marks + ((m & (column - w.column)) << b);
+    if column > m / 2 {
         return Walk {
-            a,
-            b: b + 1,
-            free: true,
-            rest: rest / 3,
-            letter: (2 + rest % 3) as u8,
+            column,
+            b,
+            rises,
+            marks,
         };
     }
     Walk {
-        a: a + 1,
-        b,
-        free: false,
-        rest: rest / 2,
-        letter: (rest % 2) as u8,
+        column,
+        b: b + 1,
+        rises: rises + (column << b),
+        marks: marks + ((grid::ones(m, q) & column) << b),
     }
 }
 
-// The best word of n, in two numbers. Each letter adds its bits at its index; the last letter is 3.
+// The best word of n, in two numbers. Each letter adds its bits at its index; the last letter is 3. At a point the rest is 2 or
+// more where the column is at most half of the rest of the row's first column.
 pub fn best_word(
     n: u64,
     scratch: &[u64],
@@ -81,23 +85,17 @@ pub fn best_word(
     ensures { λ r. ⌜ r .marks ≡ bits mark (bestWord (now (costs .entry)) doublings triplings n) ⌝ }
 {
     let mut w = Walk {
-        a: 0,
+        column: 1,
         b: 0,
-        free: true,
-        rest: n,
-        letter: 0,
+        rises: 0,
+        marks: 0,
     };
-    let mut rises = 0;
-    let mut marks = 0;
-    while w.rest > 1 {
-        let at = w.a + w.b;
-        w = walk_step(n, scratch, costs, doublings, triplings, w);
-        rises += ((w.letter / 2) as u64) << at;
-        marks += ((w.letter % 2) as u64) << at;
+    while w.column <= scratch[448 + w.b] / 2 {
+        w = walk_row(n, scratch, costs, doublings, triplings, w);
     }
-    let last = 1 << (w.a + w.b);
+    let last = w.column << w.b;
     Bits {
-        rises: rises + last,
-        marks: marks + last,
+        rises: w.rises + last,
+        marks: w.marks + last,
     }
 }

@@ -111,8 +111,9 @@ module _ (size : ℕ) (s p : List ℕ) where
   unfolding tooLittle
   enough h = rw (scratch-enough s (h .numbers), le-ltb (length p) size (h .room))
 
-  pub enough-lent : tooLittle size s p ≡ false → Enough size s p
-  enough-lent e =
+  -- The other way round.
+  pub not-little : tooLittle size s p ≡ false → Enough size s p
+  not-little e =
       record {
         numbers = not-below (λ (h : length s < scratchSize). true≢false (sym (little-scratch h) ∙ e));
         room = not-below (λ (h : length p < size). true≢false (sym (little-places h) ∙ e));

@@ -64,7 +64,7 @@ pub extern "C" fn meltsjuk_count(n: u64, scratch: &mut [u64], count: &mut u64) -
     }
 }
 
-// The limits and the prices that a caller hands over as numbers.
+// These two put the numbers that a caller hands over into limits and prices.
 fn limits_by(parts: u8, a: u8, b: u8) -> Limits
     ensures { λ r. ⌜ best.limitsOf r ≡ limitsOf parts a b ⌝ }
 {
@@ -205,8 +205,8 @@ pub extern "C" fn meltsjuk_place(numbers: &[u16], scratch: &mut [u64], position:
     ensures scratch { λ _. ⌜ now (scratch .exit) ≡ scratchLeft (littleScratch (now (scratch .entry))) (now (scratch .entry)) ⌝ }
 {
     match ranking::place_record(numbers, scratch) {
-        Position::At(index) => {
-            *position = index;
+        Position::At(told) => {
+            *position = told;
             0
         }
         Position::Refused(number) => number,

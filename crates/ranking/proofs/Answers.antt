@@ -1,5 +1,6 @@
 -- How the answers and the lent memory of the services come out, case by case. In order: a scratch too small, and one that is not; a
--- record that is placed; a record and a word in two numbers; the chain at a position; too little lent to a service with places, and enough.
+-- record that is placed; a record and a word in two numbers; the chain at a position; too little lent to a service with places, and
+-- enough.
 use mathlib.Core.Path.{_≡_, refl, sym, ap, _∙_}
 use mathlib.Core.Logic.{_⊎_, inl, inr}
 use mathlib.Core.Bool.{true, false}

@@ -1,7 +1,7 @@
 -- Which refusal each service gives, in the terms of document 01's table: each number exactly if what the table says holds, and no
 -- other number.
--- In order: reading a word; the next chain; reading and placing a record, each where enough is lent; then refusal 1, which comes first, exactly
--- where too little is lent. The tables of refusals, `WordRefusals` and `RecordRefusals`, are in words. That position i is refused
+-- In order: reading a word; the next chain; reading and placing a record, each where enough is lent; then refusal 1, which comes
+-- first, exactly where too little is lent. The tables of refusals, `WordRefusals` and `RecordRefusals`, are in words. That position i is refused
 -- with 6 exactly past the count is in RoundTrips.
 use mathlib.Core.Path.{_≡_, refl, sym, ap, _∙_}
 use mathlib.Core.Logic.{_↔_, _⊎_, inl, inr, ⊎-elim, Iff·trans}

@@ -10,7 +10,7 @@ use mathlib.Core.List.{List, map}
 use Prim.Native.Nat.{ℕ, _+_, _^_, _≤_, _<_}
 use native.Mathlib.Omega.{arith}
 use lib.ListN.{length, take, length-map}
-use Rattle.lent.specs.LentLaws.{filled-first, scratch-enough, enough, enough-lent}
+use Rattle.lent.specs.LentLaws.{filled-first, scratch-enough, enough, not-little}
 use Rattle.chains.specs.Chains.{Part, total, ChainOf}
 use Rattle.chains.specs.Words.{Word, wordOf}
 use Rattle.chains.specs.Listing.{count, position}
@@ -99,12 +99,13 @@ placed-gives scratch o n i e then =
     let number : m ≡ n = cc g in
     then c (given ∙ ap (λ (x : ℕ). gives x c) number) (cc g)
 
+-- A chain is the outcome only where enough is lent, and then it is the service's own.
 pub lent-gives : (scratch places : List ℕ) (o : Outcome) (n : ℕ) (c : List Part) → lent scratch places o ≡ gives n c
     → Enough 64 scratch places × (o ≡ gives n c)
 unfolding lent
 lent-gives scratch places o n c e =
     let (m, d, enough, given) = own-gives (tooLittle 64 scratch places) o (λ r f. no-refusal n c r (sym e ∙ f)) in
-    (enough-lent 64 scratch places enough, rw enough at e)
+    (not-little 64 scratch places enough, rw enough at e)
 
 -- ---- reading a record and placing it
 

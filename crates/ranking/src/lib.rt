@@ -51,7 +51,7 @@ pub fn read_record(numbers: &[u16], scratch: &mut [u64]) -> Placed
 }
 
 // Placing: the position of the chain whose part numbers are `numbers`, largest part first, in the list of the number that the parts
-// sum to. It takes and refuses what reading a record does, and leaves the scratch as that does.
+// sum to. It takes what `read_record` takes, refuses with 1, 8, 9, 10 in that order, and leaves the scratch in the same way.
 pub fn place_record(numbers: &[u16], scratch: &mut [u64]) -> Position
     ensures answer { λ r. ⌜ r ≡ positionOf (lentScratch (now (scratch .entry)) (ofRecord (now (numbers .entry)))) ⌝ }
     ensures scratch { λ _. ⌜ now (scratch .exit)

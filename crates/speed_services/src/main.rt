@@ -1,6 +1,6 @@
 // The services on a long sequence of 64-bit numbers, to be timed by speed/run: `speed_services SERVICE TIMES`, both in decimal.
-// SERVICE: 1 count, 2 best chain, 3 chain at a position, 4 choosing. Prints a sum over all answers, which speed/plain_services.rs prints too.
-// With no words it does nothing.
+// SERVICE: 1 count, 2 best chain, 3 chain at a position, 4 choosing. Prints a sum over all answers, which speed/plain_services.rs
+// prints too. With no words it does nothing.
 use best::Best;
 use best::Chosen;
 use best::Limits;

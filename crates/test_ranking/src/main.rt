@@ -1,9 +1,10 @@
 // Every position of the numbers to 300, and some positions of 64-bit numbers: the chain there, its word, and what reading the word,
-// reading the record and asking for the next chain answer.
+// reading the record, placing the record and asking for the next chain answer.
 //
 // A line has n, the position, how many parts, a digest of the 64 places, how many letters and a digest of the 64 letters; then =
-// where reading the word gives the same, and = where reading the record tells the same n and position; then how many parts the next
-// chain has and a digest of its places, where it is the chain of n at the next position, or the refusal. A refused position has its
+// where reading the word gives the same, = where reading the record tells the same n and position, and = where placing it tells the
+// same position; then how many parts the next chain has and a digest of its places, where it is the chain of n at the next position,
+// or the refusal. A record that is refused has two numbers, of reading and of placing. A refused position has its
 // number alone. Whatever else comes is printed in full. Of 5,248 numbers that are full of ones at each call, 512, 513 or all are
 // lent as the scratch; ! stands behind the answer where they, or the places past the 64th, are not left as they should be.
 use counting::Counted;

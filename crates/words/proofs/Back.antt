@@ -1,5 +1,5 @@
--- The way back from the largest part of a record: what the writer of a word's letters and the packer of its bits have in common. In
--- order: from each part to the next; the empty record; the largest part. The definitions are in Walks.
+-- The way back from the largest part of a record, as the writer of a word's letters goes it. In order: from each part to the next; the
+-- empty record; the largest part. The definitions are in Walks.
 use mathlib.Core.Path.{_≡_, refl, ap, subst, _∙_}
 use mathlib.Core.List.{List, [], _∷_}
 use Prim.Native.Nat.{ℕ, _+_, _≤_, _<_}

@@ -3,3 +3,4 @@ pub mod Sized
 mod Powers
 mod Back
 mod Between
+mod Judging

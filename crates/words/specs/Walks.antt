@@ -1,15 +1,18 @@
 -- What the writer of a word's letters keeps on its way, and the packer of its bits too; and the points of a word in two numbers.
 -- Only private functions cite these definitions; what the services answer and leave behind is in Conversions and Packed.
 use mathlib.Core.Path.{_≡_}
+use mathlib.Core.Logic.{_≢_}
 use mathlib.Core.Bool.{false}
 use mathlib.Core.List.{List, _∷_, _++_}
 use Prim.Native.Nat.{ℕ, _+_, _-_, _*_, _%_, _^_, _≤_, _<_}
 use lib.Count.{ones}
-use lib.ListN.{take, drop}
+use lib.ListN.{length, getD, take, drop}
 use Rattle.chains.specs.Chains.{Part, Chained, total}
-use Rattle.parts.specs.Codes.{codes}
+use Rattle.parts.specs.Parts.{partAt}
+use Rattle.parts.specs.Codes.{codes, powers}
 use Rattle.parts.specs.declared.Exponents.{Exponents}
-use Rattle.words.specs.Records.{recordParts, beyond, Burned}
+use Rattle.words.specs.Records.{recordParts, beyond, Burned, judgedOf}
+use Rattle.words.specs.declared.Judged.the-variants.{Sum}
 
 -- ---- from a record to its word
 
@@ -66,6 +69,18 @@ pub record Joins (q p : Part) (part rises marks : ℕ) : Type 0 where
   pub few : steps q p < 64
   pub rises-fit : risesFrom q p rises < 2 ^ 64
   pub marks-fit : marksFrom q p part marks < 2 ^ 64
+
+-- A record that gets no sum.
+abbrev pub NoSum : List ℕ → Type 0
+NoSum l = (n : ℕ) → judgedOf l ≢ Sum n
+
+-- Where packing a record l starts: the tables are those of the codes and of the powers of 3, and p is the record's largest part.
+pub record Begun (table threes l : List ℕ) (p : Part) : Type 0 where
+  pub is-codes : table ≡ codes
+  pub is-powers : threes ≡ powers
+  pub some : 0 < length l
+  pub known : getD l 0 0 < 1344
+  pub largest : p ≡ partAt (getD l 0 0)
 
 -- ---- from two numbers to parts
 

@@ -1,7 +1,7 @@
 // The part of a number of the part table, by the table of codes: its exponents, and its value by the powers of 3.
 use parts::Exponents;
 ghost use mathlib.Core.Path.{_≡_};
-ghost use Prim.Native.Nat.{_<_};
+ghost use Prim.Native.Nat.{_^_, _<_};
 ghost use Rattle.chains.specs.Chains.{value};
 ghost use Rattle.parts.specs.Parts.{partAt};
 ghost use Rattle.parts.specs.Codes.{codes, powers};
@@ -19,11 +19,18 @@ pub fn part_of(table: &[u16], number: u16) -> Exponents
     }
 }
 
-// Its value.
+// The value of a part by its exponents.
+pub fn value_at(threes: &[u64], part: Exponents) -> u64
+    requires { ⌜ (now threes ≡ powers) × (value (point part) < 2 ^ 64) ⌝ }
+    ensures { λ r. ⌜ r ≡ value (point part) ⌝ }
+{
+    threes[part.b as usize] << part.a
+}
+
+// The value of the part of a number.
 pub fn value_of(table: &[u16], threes: &[u64], number: u16) -> u64
     requires { ⌜ (now table ≡ codes) × (now threes ≡ powers) × (number < 1344) ⌝ }
     ensures { λ r. ⌜ r ≡ value (partAt number) ⌝ }
 {
-    let part = part_of(table, number);
-    threes[part.b as usize] << part.a
+    value_at(threes, part_of(table, number))
 }

@@ -109,10 +109,7 @@ pub fn pack_word(numbers: &[u16]) -> Packed
     ensures { λ r. ⌜ r ≡ packedOf (now (numbers .entry)) ⌝ }
 {
     let table = parts::codes::copy();
-    match records::judge(&table, numbers) {
-        Judged::Sum(n) => packing::pack(&table, numbers, n),
-        Judged::Refused(number) => Packed::Refused(number),
-    }
+    packing::pack(&table, numbers)
 }
 
 // A word in two numbers, or refusal 7 or 10. Nothing is lent for it.

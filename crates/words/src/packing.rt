@@ -3,15 +3,15 @@
 // letters are put together from the last letter back.
 use super::Packed;
 use super::entries;
+use super::records;
 use parts::Exponents;
+ghost use mathlib.Core.Logic.{_↔_};
 ghost use mathlib.Core.Path.{_≡_};
-ghost use mathlib.Core.List.{[], _∷_};
-ghost use Prim.Native.Nat.{_^_, _<_};
-ghost use lib.ListN.{drop};
-ghost use Rattle.chains.specs.Words.{walk, wordOf};
-ghost use Rattle.words.specs.Records.{recordParts};
-ghost use Rattle.words.specs.Packed.{bits, rise, mark, PackedAs, packedWord};
-ghost use Rattle.words.specs.Walks.{point, WayBack, Writable, Joins, risesFrom, marksFrom};
+ghost use mathlib.Core.Bool.{true};
+ghost use Prim.Native.Nat.{_^_, _≤_, _<_};
+ghost use Rattle.parts.specs.Codes.{codes};
+ghost use Rattle.words.specs.Packed.{bits, rise, mark, packedWord, packedOf};
+ghost use Rattle.words.specs.Walks.{point, Begun, Joins, risesFrom, marksFrom};
 
 // The two numbers of some letters.
 struct Bits {
@@ -33,44 +33,75 @@ fn with_path(later: Bits, q: Exponents, p: Exponents, part: u64) -> Bits
     }
 }
 
-// The bits of a record's word from the largest part back: from each part to the next, and from the last one to (0, 0).
-fn pack_back(table: &[u16], numbers: &[u16], largest: Exponents) -> Bits
-    requires { ⌜ WayBack (now table) (now numbers) 1 (point largest) 63 ⌝ }
-    ensures { λ r. ⌜ PackedAs (walk (point largest) (recordParts (drop 1 (now (numbers .entry)))) (3 ∷ [])) (r .rises) (r .marks) ⌝ }
+// Whether no exponent of q is above that of p.
+fn is_within(q: Exponents, p: Exponents) -> bool
+    ensures { λ r. ⌜ (r ≡ true) ↔ ((q .a ≤ p .a) × (q .b ≤ p .b)) ⌝ }
 {
-    let mut found = Bits { rises: 1, marks: 1 };
-    let mut p = largest;
-    let mut i = 1;
-    while i < numbers.len() {
-        let q = entries::part_of(table, numbers[i]);
-        found = with_path(found, q, p, 1);
-        p = q;
-        i += 1;
+    if p.a < q.a {
+        return false;
     }
-    with_path(found, Exponents { a: 0, b: 0 }, p, 0)
+    q.b <= p.b
 }
 
-// The whole word of a record that names a chain of n.
-pub fn pack(table: &[u16], numbers: &[u16], n: u64) -> Packed
-    requires { ⌜ Writable (now table) (now numbers) 64 ⌝ }
-    ensures { λ r. ⌜ r ≡ packedWord n (wordOf (recordParts (now (numbers .entry)))) ⌝ }
+// The word of a record from its largest part back, and whether it has one, in one pass: from each part to the next, and from the last
+// one to (0, 0). The numbers must descend, so all are in the table and no two are the same. Where the pass finds a refusal, the whole
+// record is looked at again for the one that comes first.
+fn pack_back(table: &[u16], threes: &[u64], numbers: &[u16], largest: Exponents) -> Packed
+    requires { ⌜ Begun (now table) (now threes) (now numbers) (point largest) ⌝ }
+    ensures { λ r. ⌜ r ≡ packedOf (now (numbers .entry)) ⌝ }
+{
+    let mut found = Bits { rises: 1, marks: 1 };
+    let mut n = entries::value_at(threes, largest);
+    let mut p = largest;
+    let mut last = numbers[0];
+    let mut i = 1;
+    while i < numbers.len() {
+        let number = numbers[i];
+        if last <= number {
+            return Packed::Refused(records::refusal(table, numbers));
+        }
+        let q = entries::part_of(table, number);
+        if !is_within(q, p) {
+            return Packed::Refused(records::refusal(table, numbers));
+        }
+        let v = entries::value_at(threes, q);
+        if u64::MAX - n < v {
+            return Packed::Refused(records::refusal(table, numbers));
+        }
+        n += v;
+        found = with_path(found, q, p, 1);
+        p = q;
+        last = number;
+        i += 1;
+    }
+    let whole = with_path(found, Exponents { a: 0, b: 0 }, p, 0);
+    Packed::Word {
+        n,
+        rises: whole.rises,
+        marks: whole.marks,
+        letters: largest.a + largest.b + 1,
+    }
+}
+
+// The word of a record, or refusal 8, 9 or 10.
+pub fn pack(table: &[u16], numbers: &[u16]) -> Packed
+    requires { ⌜ now table ≡ codes ⌝ }
+    ensures { λ r. ⌜ r ≡ packedOf (now (numbers .entry)) ⌝ }
 {
     if numbers.len() == 0 {
         return Packed::Word {
-            n,
+            n: 0,
             rises: 0,
             marks: 0,
             letters: 0,
         };
     }
-    let largest = entries::part_of(table, numbers[0]);
-    let found = pack_back(table, numbers, largest);
-    Packed::Word {
-        n,
-        rises: found.rises,
-        marks: found.marks,
-        letters: largest.a + largest.b + 1,
+    if 1344 <= numbers[0] {
+        return Packed::Refused(8);
     }
+    let threes = parts::codes::powers();
+    let largest = entries::part_of(table, numbers[0]);
+    pack_back(table, &threes, numbers, largest)
 }
 
 // The word that is given by its letters and stands for n. A letter of 0 to 3 tells its two bits by arithmetic alone, so no step

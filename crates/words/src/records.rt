@@ -14,7 +14,8 @@ ghost use Rattle.chains.specs.Divides.{Above};
 ghost use Rattle.parts.specs.Codes.{codes, powers};
 ghost use Rattle.parts.specs.Parts.{sumOf};
 ghost use Rattle.words.specs.Records.{recordParts, beyond, chainedTest, judgedOf};
-ghost use Rattle.words.specs.Walks.{point};
+ghost use Rattle.words.specs.declared.Judged.the-variants.{Refused};
+ghost use Rattle.words.specs.Walks.{point, NoSum};
 
 // Whether there are more than 64 part numbers, or one of 1,344 or more.
 pub fn is_outside(numbers: &[u16]) -> bool
@@ -79,6 +80,20 @@ fn sum_of(table: &[u16], threes: &[u64], numbers: &[u16]) -> Sum
         i += 1;
     }
     Sum::Fits(sum)
+}
+
+// The refusal of a record that gets no sum.
+pub fn refusal(table: &[u16], numbers: &[u16]) -> u8
+    requires { ⌜ (now table ≡ codes) × NoSum (now numbers) ⌝ }
+    ensures { λ r. ⌜ Refused r ≡ judgedOf (now (numbers .entry)) ⌝ }
+{
+    if is_outside(numbers) {
+        return 8;
+    }
+    if !is_chained(table, numbers) {
+        return 9;
+    }
+    10
 }
 
 // What a record gets: a refusal, or the sum of its parts.

@@ -29,7 +29,7 @@ returns : tie.Need-returns
 returns c =
     let m = c .before in
     let q = m .before .before .before .before in
-    let (status, position) = as-position _ _ _ (sym (m .index .given .1) ∙ q .place-record .ensures .0) in
+    let (status, position) = as-position _ _ _ (sym (m .told .given .1) ∙ q .place-record .ensures .0) in
     (status, (position, q .place-record .ensures .1))
 
 returns-2 : tie.Need-returns-2

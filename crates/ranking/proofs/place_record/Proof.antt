@@ -1,4 +1,4 @@
--- `place_record` tells of what reading the record tells the position alone.
+-- `place_record` reads the record and tells the position alone.
 use mathlib.Core.Path.{sym, _∙_}
 use borrow.Author.Needs.{needs}
 use Rattle.ranking.proofs.Answers.{position-placed, position-refused}

@@ -26,10 +26,10 @@ module _ (n : ℕ) (lim : Limits) (π : Prices) (x : Best) (s p p′ : List ℕ)
   answer : x ≡ bestOf (price π) (bestOutcome n lim (price π))
   answer = rw (own-outcome s p numbers room) at e
 
-  chosen-chain : (i k cost : ℕ) → x ≡ best.Chain i k cost → p′ ≡ placesLeft (lent s p (bestOutcome n lim (price π))) p → length p′ ≡ 64
+  best-found : (i k cost : ℕ) → x ≡ best.Chain i k cost → p′ ≡ placesLeft (lent s p (bestOutcome n lim (price π))) p → length p′ ≡ 64
       → (k ≤ 64) × (pricedReply (price π) (bestOutcome n lim (price π)) ≡ servedWith (pricedDigits n i (take (k - 0) p′) cost))
   unfolding bestOf pricedReply
-  chosen-chain i k cost f left h = go (bestOutcome n lim (price π)) refl
+  best-found i k cost f left h = go (bestOutcome n lim (price π)) refl
     where
       go : (o : Outcome) → bestOutcome n lim (price π) ≡ o
           → (k ≤ 64) × (pricedReply (price π) (bestOutcome n lim (price π)) ≡ servedWith (pricedDigits n i (take (k - 0) p′) cost))
@@ -42,9 +42,9 @@ module _ (n : ℕ) (lim : Limits) (π : Prices) (x : Best) (s p p′ : List ℕ)
           let (fits, stand) = chain-left m c p p′ (rw (own-outcome s p numbers room, g) at left) h in
           (omega arith, rw (g, ← stand, size, sub-zero, best-number n lim π m c g) (cc (rw (best-number n lim π m c g) at a)))
 
-  chosen-refused : (r : ℕ) → x ≡ best.Refused r → pricedReply (price π) (bestOutcome n lim (price π)) ≡ refusedAs r
+  best-refused : (r : ℕ) → x ≡ best.Refused r → pricedReply (price π) (bestOutcome n lim (price π)) ≡ refusedAs r
   unfolding bestOf pricedReply
-  chosen-refused r f = go (bestOutcome n lim (price π)) refl
+  best-refused r f = go (bestOutcome n lim (price π)) refl
     where
       go : (o : Outcome) → bestOutcome n lim (price π) ≡ o → pricedReply (price π) (bestOutcome n lim (price π)) ≡ refusedAs r
       go (refused q) g =
@@ -59,14 +59,14 @@ part-tell-priced-end c =
     let m = c .before .before .before in
     let b = m .before .before .before .before .before in
     let s = b .before .before .before .before .before .before .before in
-    omega (arith, chosen-chain _ _ _ _ _ _ _ (s .pre .0 .numbers) refl (b .best-in .ensures .0) _ _ _ (m .position .given .1) (b .best-in .ensures .1 .0) (omega arith) .0)
+    omega (arith, best-found _ _ _ _ _ _ _ (s .pre .0 .numbers) refl (b .best-in .ensures .0) _ _ _ (m .position .given .1) (b .best-in .ensures .1 .0) (omega arith) .0)
 
 tell-priced-requires : tie.Need-tell-priced-requires
 tell-priced-requires c κs =
     let m = c .before .before .before .before in
     let b = m .before .before .before .before .before in
     let s = b .before .before .before .before .before .before .before in
-    let k = chosen-chain _ _ _ _ _ _ _ (s .pre .0 .numbers) refl (b .best-in .ensures .0) _ _ _ (m .position .given .1) (b .best-in .ensures .1 .0) (omega arith) .0 in
+    let k = best-found _ _ _ _ _ _ _ (s .pre .0 .numbers) refl (b .best-in .ensures .0) _ _ _ (m .position .given .1) (b .best-in .ensures .1 .0) (omega arith) .0 in
     (omega arith, rw length-take (omega arith))
 
 returns : tie.Need-returns
@@ -77,7 +77,7 @@ returns c =
     let b = m .before .before .before .before .before in
     let s = b .before .before .before .before .before .before .before in
     let n = b .before .before .before .field-of .ensures ∙ field-fits (s .args .line .now) 1 8 (omega arith) in
-    let reply = chosen-chain _ _ _ _ _ _ _ (s .pre .0 .numbers) refl (b .best-in .ensures .0) _ _ _ (m .position .given .1) (b .best-in .ensures .1 .0) (omega arith) .1 in
+    let reply = best-found _ _ _ _ _ _ _ (s .pre .0 .numbers) refl (b .best-in .ensures .0) _ _ _ (m .position .given .1) (b .best-in .ensures .1 .0) (omega arith) .1 in
     rw (← n)
     (record { told = rw reply (t .tell-priced .ensures); zeroed = scratch-zeroed _ _ (s .pre .0 .numbers) refl _ (b .best-in .ensures .1 .1) })
 
@@ -89,7 +89,7 @@ returns-2 c =
     let b = m .before .before .before .before .before in
     let s = b .before .before .before .before .before .before .before in
     let n = b .before .before .before .field-of .ensures ∙ field-fits (s .args .line .now) 1 8 (omega arith) in
-    let reply = chosen-refused _ _ _ _ _ _ (s .args .out .now) (s .pre .0 .numbers) refl (b .best-in .ensures .0) _ (m .number .given .1) in
+    let reply = best-refused _ _ _ _ _ _ (s .args .out .now) (s .pre .0 .numbers) refl (b .best-in .ensures .0) _ (m .number .given .1) in
     rw (← n)
     (record { told = rw reply (t .tell-refusal .ensures); zeroed = scratch-zeroed _ _ (s .pre .0 .numbers) refl _ (b .best-in .ensures .1 .1) })
 

@@ -4,57 +4,40 @@ use mathlib.Core.Bool.{Bool, true, false, cond, _||_}
 use mathlib.Core.List.{List}
 use Prim.Native.Nat.{ℕ}
 use native.Mathlib.Omega.{arith}
-use lib.Dec.{ltb, leb}
+use lib.Dec.{ltb}
 use lib.ListN.{length}
 use borrow.Author.Needs.{needs}
 use borrow.Author.Tests.{not-true, not-false, ltb-true, ltb-false, le-leb, lt-leb}
 use Rattle.chains.specs.Chains.{total}
 use Rattle.parts.specs.Parts.{limit, sumOf}
 use Rattle.parts.specs.declared.Sum.the-variants.{Fits, Over}
-use Rattle.lent.specs.LentLaws.{neither}
 use Rattle.words.specs.Records.{recordParts, beyond, chainedTest, judgedOf}
 use Rattle.words.specs.declared.Judged.the-variants.{Sum, Refused}
+use Rattle.words.proofs.Judging.{outside, known, unchained, judged}
 use Rattle.words.proofs.records.judge.Statement.{statement}
 use Rattle.words.proofs.records.judge.Tie as tie
 
--- o is the answer for the numbers, t for the pairs.
-module _ (l : List ℕ) (o : Bool) (eo : o ≡ (ltb 64 (length l) || beyond l)) where
-  outside : o ≡ true → Refused 8 ≡ judgedOf l
-  unfolding judgedOf
-  outside e = rw (← eo, e)
+-- The sum of the parts: o is the answer for the numbers, t for the pairs.
+module _ (l : List ℕ) (o : Bool) (eo : o ≡ (ltb 64 (length l) || beyond l)) (inside : o ≡ false) (t : Bool)
+    (et : t ≡ chainedTest (recordParts l)) (chained : t ≡ true) where
+  abbrev whole : ℕ
+  whole = total (recordParts l)
 
-  known : o ≡ false → beyond l ≡ false
-  known e = neither (ltb 64 (length l)) (beyond l) (sym eo ∙ e) .1
+  fits : (n : ℕ) → Fits n ≡ sumOf whole → Sum n ≡ judgedOf l
+  unfolding sumOf
+  fits n e = go (ltb whole limit) refl e
+    where
+      go : (b : Bool) → ltb whole limit ≡ b → Fits n ≡ cond b (Fits whole) Over → Sum n ≡ judgedOf l
+      go true d f = rw (judged l o eo inside t et chained, lt-leb limit whole (ltb-true whole limit d)) cc
+      go false d f = let z : _≡_ {A = ℕ} 0 1 = cc in absurd (omega arith)
 
-  module _ (inside : o ≡ false) (t : Bool) (et : t ≡ chainedTest (recordParts l)) where
-    unchained : t ≡ false → Refused 9 ≡ judgedOf l
-    unfolding judgedOf
-    unchained e = rw (← eo, inside, ← et, e)
-
-    -- The sum of the parts.
-    module _ (chained : t ≡ true) where
-      abbrev whole : ℕ
-      whole = total (recordParts l)
-
-      judged : judgedOf l ≡ cond (leb limit whole) (Refused 10) (Sum whole)
-      unfolding judgedOf
-      judged = rw (← eo, inside, ← et, chained)
-
-      fits : (n : ℕ) → Fits n ≡ sumOf whole → Sum n ≡ judgedOf l
-      unfolding sumOf
-      fits n e = go (ltb whole limit) refl e
-        where
-          go : (b : Bool) → ltb whole limit ≡ b → Fits n ≡ cond b (Fits whole) Over → Sum n ≡ judgedOf l
-          go true d f = rw (judged, lt-leb limit whole (ltb-true whole limit d)) cc
-          go false d f = let z : _≡_ {A = ℕ} 0 1 = cc in absurd (omega arith)
-
-      over : Over ≡ sumOf whole → Refused 10 ≡ judgedOf l
-      unfolding sumOf
-      over e = go (ltb whole limit) refl e
-        where
-          go : (b : Bool) → ltb whole limit ≡ b → Over ≡ cond b (Fits whole) Over → Refused 10 ≡ judgedOf l
-          go true d f = let z : _≡_ {A = ℕ} 0 1 = cc in absurd (omega arith)
-          go false d f = rw (judged, le-leb limit whole (ltb-false whole limit d))
+  over : Over ≡ sumOf whole → Refused 10 ≡ judgedOf l
+  unfolding sumOf
+  over e = go (ltb whole limit) refl e
+    where
+      go : (b : Bool) → ltb whole limit ≡ b → Over ≡ cond b (Fits whole) Over → Refused 10 ≡ judgedOf l
+      go true d f = let z : _≡_ {A = ℕ} 0 1 = cc in absurd (omega arith)
+      go false d f = rw (judged l o eo inside t et chained, le-leb limit whole (ltb-false whole limit d))
 
 -- ---- the function
 
