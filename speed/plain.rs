@@ -50,7 +50,7 @@ fn cell(a: usize, b: usize, after_a: usize) -> usize {
 }
 
 /// The columns of a row in which something is left.
-fn live(row: u64) -> usize {
+pub fn live(row: u64) -> usize {
     COLUMNS - row.leading_zeros() as usize
 }
 

@@ -1,4 +1,4 @@
-"""The best chain of any number by growth from the smallest part, for the independent program.
+"""The best and the cheapest chains of any number by growth from the smallest part, for the independent program.
 
 After a part of value v what is left is v × m, and the next part is v × q, where q = 2^x × 3^y is not 1 and divides m; then m / q − 1 is left
 above it. No table over points and no remainders: only divisors.
@@ -67,6 +67,52 @@ def best_word(n, most_a, most_b, prices):
         return least
 
     return choose(n, 0, 0, False)
+
+
+def cheapest_of_each(n, most_a, most_b, prices):
+    """By number of parts: (price, word) of the cheapest chain with so many parts and with doublings and triplings in the limits."""
+    if n == 0:
+        return {0: (0, "")}
+    d, t, s2, s3 = prices
+    known = {}
+
+    def from_part(m, a, b):
+        if m == 0:
+            return {1: (0, "3")}
+        if (m, a, b) not in known:
+            known[m, a, b] = choose(m, a, b, True)
+        return known[m, a, b]
+
+    def choose(m, a, b, part):
+        least = {}
+        for x, y, letters, left in steps(m, part):
+            if a + x <= most_a and b + y <= most_b:
+                more = d * x + t * y + (s3 if y else s2) * part
+                for k, (price, word) in from_part(left, a + x, b + y).items():
+                    found = price + more, letters + word
+                    least[k + part] = min(found, least.get(k + part, found))
+        return least
+
+    return choose(n, 0, 0, False)
+
+
+def shares(n):
+    """By number of parts: how many chains have so many."""
+    known = {0: {1: 1}}
+
+    def from_part(m):
+        if m not in known:
+            known[m] = summed(m, True)
+        return known[m]
+
+    def summed(m, part):
+        total = {}
+        for _, _, _, left in steps(m, part):
+            for k, ways in from_part(left).items():
+                total[k + part] = total.get(k + part, 0) + ways
+        return total
+
+    return summed(n, False) if n else {0: 1}
 
 
 def grown(m):

@@ -8,11 +8,11 @@
 Small numbers: all chains from the definition, by search over divisors from the largest part down (chains_up_to, chains_of); their words
 by walking the points; their order by sorting text. Any 64-bit number: the engine, tests/independent_engine.rs, which takes parts from the
 largest down by what n leaves modulo the part taken last. test_best finds its best chains by growth from the smallest part too
-(tests/grown.py). Tree words: the six lines as T-05 writes them, letters read on parts and undone on parts (tree_words, read_back,
-tree_word_of). At every run check_003 holds the engine to the search, on whole lists, check_one_price holds the replies to those that were
-stored when an addition had one price, check_no_exponents to those that were stored before T-06, check_trees holds tree words to the chains
-that the search finds, check_exponents holds a and b of every part to its value, and check_bench holds moves and walks to 003's section 2.3 and
-theorem 1 on the chains that the search finds.
+(tests/grown.py), and test_limited some of its cheapest chains and counts. Tree words: the six lines as T-05 writes them, letters read on
+parts and undone on parts (tree_words, read_back, tree_word_of). At every run check_003 holds the engine to the search, on whole lists,
+check_one_price holds the replies to those that were stored when an addition had one price, check_no_exponents to those that were stored before
+T-06, check_trees holds tree words to the chains that the search finds, check_exponents holds a and b of every part to its value, and
+check_bench holds moves and walks to 003's section 2.3 and theorem 1 on the chains that the search finds.
 
 Not shared with the crates:
 - any code;
@@ -21,6 +21,8 @@ Not shared with the crates:
 - the two readers: here a pattern on text says whether a word is good;
 - positions by adding up, along a word, the chains that turn off to a: here all words are compared as text, many at a time;
 - the best chain's numeric keys: here parts, price and text are compared;
+- the cheapest chain and the count within K parts by a table for each number of parts that are still allowed: here chains are counted and
+  the cheapest is kept for each number of parts that they have, and K only chooses among these numbers;
 - the run of a chain along its path, by doubling, tripling and adding modulo m: here n × x modulo m, in integers of any size;
 - tree words by way of path words, with the letters 1 that are owed: here every letter multiplies or adds to the parts themselves, and a
   chain's tree word is found by undoing letters on its parts. No path word is used;
@@ -35,7 +37,8 @@ Shared with the crates:
 - the definitions of documents 01 and 02 and of 003, T-05's six lines among them, and the order of the refusals;
 - what each number of a lent bench stands for, as crates/bench says, for the digests and to know what a spoiled one holds;
 - that what follows a part sums to less than the part;
-- that a best chain is best up to each of its points, so that one chain a point is enough;
+- that a best chain is best up to each of its points, so that one chain a point is enough; a cheapest one likewise, with one chain for each
+  point and number of parts;
 - that the letters between two parts are those of a run of b and a run of a. The engine writes them so, as crates/words does; word_of below
   walks point by point, and the engine's `position` knows no word that the two write differently;
 - that a price may be added up letter by letter. The engine does, as crates/best does. `best` below holds the sum to price_of, which takes a
@@ -208,6 +211,35 @@ def best(n, parts, most_a, most_b, d, t, s2, s3):
     chain = chain_of(word)
     assert sum_of(chain) == n and len(chain) == k and price_of(chain, d, t, s2, s3) == price
     return k, price, word
+
+
+@functools.lru_cache(1000)
+def shares(n):
+    """How many chains of n have 0 parts, 1 part, and so on to 64."""
+    return tuple(map(int, ask("shares", n)))
+
+
+def count_up_to(n, most):
+    """How many chains of n have at most so many parts."""
+    return sum(shares(n)[: most + 1])
+
+
+@functools.lru_cache(1000)
+def cheapest_of_each(n, most_a, most_b, prices):
+    """By number of parts: (price, word) of the cheapest chain with so many parts, the earliest of those with this price."""
+    found = ask("cheapest", n, most_a, most_b, *prices) or []
+    least = {int(k): (int(price), word) for k, price, word in zip(found[::3], found[1::3], found[2::3])}
+    for k, (price, word) in least.items():
+        chain = chain_of(word)
+        assert sum_of(chain) == n and len(chain) == k and price_of(chain, *prices) == price
+    return least
+
+
+def cheapest(n, limits, prices):
+    """The cheapest chain's (parts, price, word), or None: of those with at most K parts the lowest price, then the fewest parts."""
+    most, most_a, most_b = limits
+    least = min(((price, k, word) for k, (price, word) in cheapest_of_each(n, most_a, most_b, prices).items() if k <= most), default=None)
+    return least and (least[1], least[0], least[2])
 
 
 def pulled_apart(n, limits, prices):
@@ -387,12 +419,13 @@ def check_003():
 
 
 def check_list(n, entries):
-    """The engine's answers on a number against its whole list: the count, each position, each chain, and the best within limits.
+    """The engine's answers on a number against its whole list: the counts, each position, each chain, the best and the cheapest within limits.
 
     Every chain of the list runs to the same residue, which is that of x added up n times. With s2 = s3 = s a price is that of one s. A chain's
     reply from k on, made into a line of kind 04, gets this reply again.
     """
     assert count(n) == len(entries) and ask("at", n, len(entries)) is None
+    assert all(count_up_to(n, most) == listed_up_to(entries, most) for most in range(256))
     for i, (word, chain) in enumerate(entries):
         assert good(word) and word_at(n, i) == word and position_of(word) == i and chain_of(word) == chain
         assert reply_to(b"04" + chain_reply(n, chain)[K_AT_REPLY:].encode()) == chain_reply(n, chain)
@@ -403,6 +436,9 @@ def check_list(n, entries):
         prices = CHECKED_PRICES[(n + i) % len(CHECKED_PRICES)]
         least = listed_best(entries, limits, prices)
         assert best(n, *limits, *prices) == (least and (least[0], least[1], word_of(least[3])))
+        for most in (*range(10), limits[0]):
+            least = listed_cheapest(entries, (most, *limits[1:]), prices)
+            assert cheapest(n, (most, *limits[1:]), prices) == (least and (least[0], least[1], word_of(least[3])))
     for (_, chain), (d, t, s, _) in itertools.product(entries, CHECKED_PRICES):
         a, b = exponents(chain)
         assert price_of(chain, d, t, s, s) == d * a + t * b + s * max(len(chain) - 1, 0)
@@ -1479,15 +1515,26 @@ EDGES = [3 * 2**62 - 1, 3 * 2**62, 2**64 - 1, 2**64 - 2, 2**63, 2**62 - 1, 3**40
 EDGES += [(2**36 * 3**19 - 27) // 5]
 
 
-def listed_best(entries, limits, prices):
-    """Of the list of a number: (position, chain), by looking at every chain."""
+def listed_within(entries, limits, prices):
+    """Of the list of a number: (parts, price, position, chain) of each chain within the limits, by looking at every chain."""
     most, most_a, most_b = limits
-    fitting = []
     for i, (_, c) in enumerate(entries):
         a, b = exponents(c)
         if not c or (len(c) <= most and a <= most_a and b <= most_b):
-            fitting.append((len(c), price_of(c, *prices), i, c))
-    return min(fitting) if fitting else None
+            yield len(c), price_of(c, *prices), i, c
+
+
+def listed_best(entries, limits, prices):
+    return min(listed_within(entries, limits, prices), default=None)
+
+
+def listed_cheapest(entries, limits, prices):
+    """The price first, then the parts, then the position."""
+    return min(listed_within(entries, limits, prices), key=lambda found: (found[1], found[0], found[2]), default=None)
+
+
+def listed_up_to(entries, most):
+    return len([c for _, c in entries if len(c) <= most])
 
 
 def best_twice(n, limits, prices):
@@ -1556,6 +1603,122 @@ def test_best():
     for size, places in (SHORT, 66), (SCRATCH, 63), (5248, 63):
         for n, limits in EXAMPLES:
             yield from left_lines(n, limits, size, places)
+
+
+# ---- the cheapest chain within a limit on parts, and how many chains there are: T-10
+
+LENT = 174720  # numbers that both services must be lent, and that are zero on return
+ANY = (255, 255)  # limits on doublings and triplings that exclude nothing
+WAYS = [(*ANY, (4, 7, 9, 9)), (*ANY, (0, 0, 0, 0)), (63, 0, (65535, 65535, 65535, 65535)), (*ANY, (1, 0, 5, 2)), (3, 40, (9, 1, 1, 4))]
+WAYS += [(63, 1, (1, 65535, 65535, 0)), (5, 2, (65535, 1, 0, 65535)), (0, 40, (0, 0, 9, 9)), (*ANY, (4, 7, 9, 6)), (0, 0, (0, 0, 0, 0))]
+WAYS += [(63, 40, (1, 0, 0, 0)), (*ANY, (0, 1, 0, 0)), (*ANY, (0, 0, 65535, 0)), (*ANY, (0, 0, 0, 65535))]
+PARTS_DECIDE = (1, 7, 9)  # in these ways the cheapest chain is the best
+LIMITED = [0, 1, 2**64 - 1, 2**64 - 2, 3 * 2**62 - 1, 3 * 2**62, 2**63, 2**63 - 1, 3**40, 3**40 - 1, 3**40 + 1, (2**36 * 3**19 - 27) // 5]
+LIMITED += [(3**41 - 1) // 2, 10**18, (2**64 - 1) // 3, 19]
+LIMITED_PARTS = [*range(67), 127, 128, 254, 255]
+LEFT_LIMITS = [FREE, (0, 0, 0), (62, 63, 40), (64, 0, 40)]
+
+
+def parts_and_numbers(found):
+    """The number of parts, the price and the part numbers, or the refusal."""
+    return "5" if found is None else " ".join(map(str, [*found[:2], *numbers_of(chain_of(found[2]))]))
+
+
+def parts_and_digest(found):
+    """The same with a digest of these and the 64 places, for the part numbers."""
+    if found is None:
+        return "5"
+    k, price, word = found
+    places = (numbers_of(chain_of(word)) + [0] * 64)[:64]
+    return f"{k} {price} {functools.reduce(mixed, [*places, k, price], 0)}"
+
+
+def rising_line(n, way, parts):
+    """The cheapest chain under each limit on parts, where it is another one; = where the best chain is the same."""
+    most_a, most_b, prices = WAYS[way]
+    text, last = f"{n} {way}", "nothing"
+    for most in parts:
+        limits = most, most_a, most_b
+        found = cheapest(n, limits, prices)
+        same = found == best(n, *limits, *prices)
+        assert same or way not in PARTS_DECIDE
+        if found != last:
+            text += f" {most}: {parts_and_numbers(found)}" + (" =" if same else "")
+        last = found
+    return text
+
+
+def counts_line(n, parts):
+    """The count under each limit on parts, where it is another one. From 64 on it is the count of all chains, which comes last."""
+    text, last = str(n), None
+    for most in parts:
+        counted = count_up_to(n, most)
+        assert most < 64 or counted == count(n)
+        if counted != last:
+            text += f" {most}: {counted}"
+        last = counted
+    return f"{text} {count(n)}"
+
+
+def small_limited():
+    for n, entries in enumerate(listing(200)):
+        parts = [*range(8), 64 + n % 192]
+        for way in ((n + i) % len(WAYS) for i in range(7)):
+            for most in parts:
+                least = listed_cheapest(entries, (most, *WAYS[way][:2]), WAYS[way][2])
+                assert cheapest(n, (most, *WAYS[way][:2]), WAYS[way][2]) == (least and (*least[:2], word_of(least[3])))
+            yield rising_line(n, way, parts)
+        assert all(count_up_to(n, most) == listed_up_to(entries, most) for most in parts)
+        yield counts_line(n, parts)
+
+
+def edges_limited():
+    """The cheapest chains and the counts are found by growth from the smallest part too."""
+    for i, n in enumerate(LIMITED):
+        for way in ((i + 3 * j) % len(WAYS) for j in range(4)):
+            assert cheapest_of_each(n, *WAYS[way]) == grown.cheapest_of_each(n, *WAYS[way])
+            yield rising_line(n, way, LIMITED_PARTS)
+        assert {k: share for k, share in enumerate(shares(n)) if share} == grown.shares(n)
+        yield counts_line(n, LIMITED_PARTS)
+        grown.forget()
+
+
+def falling_line(n, i):
+    """From the cheapest chain of all down, each with fewer parts than the one before. Then limits near what that of all needs, and counts."""
+    prices = WAYS[i % len(WAYS)][2]
+    if i % 10 == 0:
+        assert cheapest_of_each(n, *ANY, prices) == grown.cheapest_of_each(n, *ANY, prices)
+        grown.forget()
+    free = found = cheapest(n, FREE, prices)
+    text = str(n)
+    while found is not None:
+        text += " " + parts_and_digest(found)
+        found = cheapest(n, (found[0] - 1, *ANY), prices)
+    a, b = exponents(chain_of(free[2]))
+    near = [FREE, (255, max(a - 1 + i % 3, 0), 255), (255, 255, max(b - 1 + i // 3 % 3, 0))]
+    text += " 5" + "".join(" " + parts_and_digest(cheapest(n, limits, prices)) for limits in near)
+    return f"{text} {count_up_to(n, i % 40)} {count_up_to(n, 64 + i % 192)}"
+
+
+def lent_line(n, limits, size, places):
+    """The cheapest chain, and how far zeros and then what was there before reach: in the scratch, and in the places behind the parts. Then the
+    same of the count, which is lent no places."""
+    found = cheapest(n, limits, WAYS[0][2])
+    if size < LENT or places < 64:
+        left = f"1 0 {size} 0 {places}"
+    else:
+        left = f"{parts_and_numbers(found)} {LENT} {size} {0 if found is None else 64} {places}"
+    return left + (f" 1 0 {size}" if size < LENT else f" {count_up_to(n, limits[0])} {LENT} {size}")
+
+
+@what
+def test_limited():
+    yield from small_limited()
+    yield from edges_limited()
+    yield from (falling_line(x >> i % 40, i) for i, x in enumerate(shifts(300)))
+    for size, places in itertools.product((LENT - 1, LENT, LENT + 10), (63, 64, 70)):
+        for n, limits in itertools.product(LIMITED, LEFT_LIMITS):
+            yield lent_line(n, limits, size, places)
 
 
 SPECIAL = [65535, 65536, 10**6, 2**32 - 1, 2**32, 10**18, 3**19 - 1, 3**19, 3**19 + 1, 2**30 * 3**19, 2**62 - 1, 2**62]

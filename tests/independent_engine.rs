@@ -1,10 +1,13 @@
-// The chains of any 64-bit number, for tests/independent.py: how many there are, their positions, the best. A question a line, an answer a
-// line.
+// The chains of any 64-bit number, for tests/independent.py: how many there are, their positions, the best, the cheapest. A question a line,
+// an answer a line.
 //
-//     count N                 how many chains N has
-//     position N WORD         how many words of the list of N come before WORD, or `none` where WORD is not in the list
-//     at N POSITION           the word at a position, or `none` where the list is not that long
-//     best N K A B D T S2 S3  parts, price and word of the best chain within the limits K, A, B at the prices D, T, S2, S3, or `none`
+//     count N                   how many chains N has
+//     shares N                  how many chains of N have 0 parts, 1 part, and so on to 64
+//     position N WORD           how many words of the list of N come before WORD, or `none` where WORD is not in the list
+//     at N POSITION             the word at a position, or `none` where the list is not that long
+//     best N K A B D T S2 S3    parts, price and word of the best chain within the limits K, A, B at the prices D, T, S2, S3, or `none`
+//     cheapest N A B D T S2 S3  for each number of parts that a chain within A and B has: this number, and price and word of the cheapest
+//                               such chain, the first of those with this price; `none` where there is no chain
 //
 // The road: a chain is built from its largest part down. What follows a part is a sum of parts, each at most half of the one before, thus
 // less than the part. So once a part q is taken, n mod q is left, whatever was taken before: all that is a multiple of q. If nothing is
@@ -105,6 +108,26 @@ fn count(points: &[Point]) -> u64 {
             chains[j] += chains[i];
         }
         total += if q.above.is_empty() { chains[i] } else { 0 };
+    }
+    total
+}
+
+/// How many chains lead down from each point, by their number of parts; then their sums over the largest parts.
+fn shares(points: &[Point]) -> [u64; 65] {
+    let mut chains = vec![[0; 65]; points.len()];
+    let mut total = [0; 65];
+    for (i, q) in points.iter().enumerate().rev() {
+        chains[i][1] += q.smallest as u64;
+        for k in 1..65 {
+            let ways = chains[i][k];
+            if ways == 0 {
+                continue;
+            }
+            for &j in &q.above {
+                chains[j][k + 1] += ways;
+            }
+            total[k] += if q.above.is_empty() { ways } else { 0 };
+        }
     }
     total
 }
@@ -246,9 +269,50 @@ fn best(points: &[Point], [most_parts, most_a, most_b]: [u64; 3], prices: &Price
     whole.filter(|&(k, _, _)| k <= most_parts)
 }
 
+/// Price and letters: of chains with equally many parts one is cheaper where this is less, compared in this order.
+type Cost = (u64, Vec<u8>);
+
+fn cheaper(one: &mut Option<Cost>, price: u64, before: &[u8], told: &[u8]) {
+    let letters = || before.iter().chain(told);
+    let is_less = |(p, known): &Cost| price.cmp(p).then_with(|| letters().cmp(known)) == Ordering::Less;
+    if one.as_ref().map_or(true, is_less) {
+        *one = Some((price, letters().copied().collect()));
+    }
+}
+
+/// For each point and each number of parts the cheapest of the chains that lead down from it; then for each number of parts the cheapest
+/// over the largest parts within the limits. K is not asked for here: the caller takes those with at most K parts.
+fn cheapest(points: &[Point], [most_a, most_b]: [u64; 2], prices: &Prices) -> Vec<Option<Cost>> {
+    let mut least = vec![vec![None; 65]; points.len()];
+    let mut whole = vec![None; 65];
+    for (i, q) in points.iter().enumerate().rev() {
+        let mut here = std::mem::take(&mut least[i]);
+        if q.smallest {
+            let told = letters_before(q);
+            cheaper(&mut here[1], prices.of(&told), &[], &told);
+        }
+        let is_within = q.above.is_empty() && q.a as u64 <= most_a && q.b as u64 <= most_b;
+        let told: Vec<_> = q.above.iter().map(|&j| (j, letters_between(q, &points[j]))).map(|(j, told)| (j, prices.of(&told), told)).collect();
+        for (k, cost) in here.iter().enumerate() {
+            let Some((price, before)) = cost else { continue };
+            for (j, more, told) in &told {
+                cheaper(&mut least[*j][k + 1], price + more, before, told);
+            }
+            if is_within {
+                cheaper(&mut whole[k], *price, before, b"3");
+            }
+        }
+    }
+    whole
+}
+
 fn answer(kind: &str, n: u64, more: &[&str], points: &[Point]) -> Option<String> {
     let number = |i: usize| more[i].parse::<u64>().expect("a number");
     let text = |word| String::from_utf8(word).expect("letters");
+    let prices_from = |i: usize| {
+        let [doubling, tripling, addition_at_1, addition_at_3] = [i, i + 1, i + 2, i + 3].map(number);
+        Prices { doubling, tripling, addition_at_1, addition_at_3 }
+    };
     match (kind, n) {
         ("count", 0) => Some("1".to_string()),
         ("count", _) => Some(count(points).to_string()),
@@ -258,9 +322,16 @@ fn answer(kind: &str, n: u64, more: &[&str], points: &[Point]) -> Option<String>
         ("at", _) => at(points, number(0)).map(text),
         ("best", 0) => Some("0 0 -".to_string()),
         ("best", _) => {
-            let prices = Prices { doubling: number(3), tripling: number(4), addition_at_1: number(5), addition_at_3: number(6) };
-            let found = best(points, [number(0), number(1), number(2)], &prices);
+            let found = best(points, [number(0), number(1), number(2)], &prices_from(3));
             found.map(|(k, price, word)| format!("{k} {price} {}", text(word)))
+        }
+        ("shares", 0) => Some(["1"].into_iter().chain([" 0"; 64]).collect()),
+        ("shares", _) => Some(shares(points).map(|ways| ways.to_string()).join(" ")),
+        ("cheapest", 0) => Some("0 0 -".to_string()),
+        ("cheapest", _) => {
+            let found = cheapest(points, [number(0), number(1)], &prices_from(2)).into_iter().enumerate();
+            let told: Vec<String> = found.filter_map(|(k, cost)| cost.map(|(price, word)| format!("{k} {price} {}", text(word)))).collect();
+            (!told.is_empty()).then(|| told.join(" "))
         }
         _ => panic!("no such question: {kind}"),
     }

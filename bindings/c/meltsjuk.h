@@ -1,9 +1,9 @@
 /* Double-base chains from C and C++.
  *
  * A chain writes a number as a sum of parts 2^a * 3^b, each a proper multiple of the next. The functions count the chains of a
- * number, find its best chain, tell the position of a chain, run a chain on a residue, read and write tree words, move a chain on a
- * bench, and reply to a line of hexadecimal. Each is proved to answer and to leave behind exactly what its contract in
- * crates/meltsjuk/src/lib.rt says, for every argument.
+ * number, find its best chain and its cheapest, tell the position of a chain, run a chain on a residue, read and write tree words,
+ * move a chain on a bench, and reply to a line of hexadecimal. Each is proved to answer and to leave behind exactly what its
+ * contract in crates/meltsjuk/src/lib.rt says, for every argument.
  * `rt staticlib meltsjuk` writes the archive target/staticlib/libmeltsjuk.a, for x86-64 Linux:
  *
  *     cc -I bindings/c program.c target/staticlib/libmeltsjuk.a
@@ -20,8 +20,9 @@
  * with a stack of MELTSJUK_STACK bytes can make every call. The caller's own functions and signal handlers need more on top.
  *
  * Too little lent is refused first of all, and then nothing is written. On every other return the first MELTSJUK_SCRATCH numbers of
- * the scratch are zero and those after them are as they were. More may be lent than is asked for. meltsjuk_run, meltsjuk_write_tree
- * and the functions for a bench are lent no scratch.
+ * the scratch are zero and those after them are as they were. More may be lent than is asked for. For meltsjuk_cheapest and
+ * meltsjuk_count_up_to all this is so with MELTSJUK_TABLE in place of MELTSJUK_SCRATCH. meltsjuk_run, meltsjuk_write_tree and the
+ * functions for a bench are lent no scratch.
  */
 #ifndef MELTSJUK_H
 #define MELTSJUK_H
@@ -31,6 +32,7 @@
 #include <stdint.h>
 
 #define MELTSJUK_SCRATCH 512     /* a scratch has at least so many numbers; they take 4 KB */
+#define MELTSJUK_TABLE 174720    /* so many for meltsjuk_cheapest and meltsjuk_count_up_to; they take 1.4 MB */
 #define MELTSJUK_PLACES 64       /* at least so many places are lent for part numbers; a chain has no more parts */
 #define MELTSJUK_TREE_PLACES 160 /* at least so many places are lent for the letters of a tree word; it has at most 157 */
 #define MELTSJUK_REPLY 514       /* at least so many bytes are lent for a reply */
@@ -75,6 +77,14 @@ uint64_t meltsjuk_reply(const uint8_t *line, size_t line_length, uint64_t *scrat
  * Answers MELTSJUK_SERVED with the count in *count, or MELTSJUK_LITTLE_LENT, and *count is as it was. */
 uint8_t meltsjuk_count(uint64_t n, uint64_t *scratch, size_t scratch_length, uint64_t *count);
 
+/* How many chains of n have at most `parts` parts. The number 0 has one, the empty chain. No chain has more than 64 parts, so with
+ * `parts` of 64 or more this is the count that meltsjuk_count tells.
+ *
+ * Lent: the scratch, MELTSJUK_TABLE numbers or more; one number for the count.
+ * Answers MELTSJUK_SERVED with the count in *count, which is 0 where there is no such chain, or MELTSJUK_LITTLE_LENT, and *count is
+ * as it was. */
+uint8_t meltsjuk_count_up_to(uint64_t n, uint8_t parts, uint64_t *scratch, size_t scratch_length, uint64_t *count);
+
 /* The best chain of n: the fewest parts, then the lowest price, then the earliest position in the list of n's chains, among the
  * chains with at most `parts_limit` parts and a largest part 2^a * 3^b with a up to `a_limit` and b up to `b_limit`. Limits above
  * 64, 63 and 40 exclude nothing. The number 0 has the empty chain, of no parts and price 0, within any limits.
@@ -102,8 +112,21 @@ uint8_t meltsjuk_choose(uint64_t n, uint8_t parts_limit, uint8_t a_limit, uint8_
                         uint16_t s3, uint64_t *scratch, size_t scratch_length, uint16_t *places, size_t places_length,
                         uint64_t *k, uint64_t *price);
 
+/* The cheapest chain of n: the lowest price, then the fewest parts, then the earliest position in the list of n's chains, among the
+ * chains within the same limits as for meltsjuk_best. It may have more parts than the best chain and cost less. With prices of 0 it
+ * is the best chain.
+ *
+ * Lent: the scratch, MELTSJUK_TABLE numbers or more; MELTSJUK_PLACES places or more; one number each for the number of parts and the
+ * price.
+ * Answers MELTSJUK_SERVED with the number of parts and the price in *k and *price, and the part numbers in the places, as for
+ * meltsjuk_best. Answers MELTSJUK_LITTLE_LENT or MELTSJUK_NONE_FITS otherwise, and the places and the two numbers are as they were. */
+uint8_t meltsjuk_cheapest(uint64_t n, uint8_t parts_limit, uint8_t a_limit, uint8_t b_limit, uint16_t d, uint16_t t, uint16_t s2,
+                          uint16_t s3, uint64_t *scratch, size_t scratch_length, uint16_t *places, size_t places_length,
+                          uint64_t *k, uint64_t *price);
+
 /* Placing: the position of a chain in the list of n's chains, where n is the sum of its parts. After meltsjuk_choose, the first *k
- * places hold the part numbers of such a chain, and this is the position that meltsjuk_best tells.
+ * places hold the part numbers of such a chain, and this is the position that meltsjuk_best tells. After meltsjuk_cheapest they hold
+ * those of the cheapest chain.
  *
  * Lent: the chain's part numbers, largest part first, as meltsjuk_best gives them, and where there are none the length is 0 and the
  * pointer is not null; the scratch, MELTSJUK_SCRATCH numbers or more; one number for the position.

@@ -5,14 +5,18 @@
  * the best chain, choosing and placing, the run of a chain and the two for tree words, whose answers are written here as replies. The
  * calls take and tell chains without a and b of the largest part. So these are passed over in a line, and for a reply they are looked
  * up. For a line of kind 02 choosing and placing must tell what the best chain tells.
+ * With the argument `limited`: the cheapest chain for lines as those of kind 02, and the count of chains with at most so many parts for
+ * lines as those of kind 01 with one byte more, the number of parts. There are no replies to such calls. Written are 00 and the count in
+ * 8 bytes, or 00, the number of parts, the part numbers and the price in 4 bytes, or the refusal.
  *
  * Every call is made on a thread with a stack of MELTSJUK_STACK bytes. The page below the stack must not be touched: a call that
  * needs more stack ends the program by a signal.
  *
  * Every scratch stands before a page that must not be touched either: a call that reads or writes past its end is stopped alike. A
  * scratch has MELTSJUK_SCRATCH numbers, one more, or 5,248. All bits are set before a call. After it the first MELTSJUK_SCRATCH
- * numbers must be zero and the others as they were. A scratch of one number less is refused and left as it was. The places for part
- * numbers and for letters, and the numbers of a bench, stand before such a page too. */
+ * numbers must be zero and the others as they were. A scratch of one number less is refused and left as it was. The same is tried with
+ * MELTSJUK_TABLE numbers, one more and one less, for the two calls that ask for so many. The places for part numbers and for letters,
+ * and the numbers of a bench, stand before such a page too. */
 #define _DEFAULT_SOURCE
 #define _POSIX_C_SOURCE 200809L
 #include "meltsjuk.h"
@@ -42,6 +46,7 @@ struct part {
 };
 
 static struct scratch shorter, exact, longer, large;
+static struct scratch short_table, table, long_table; /* MELTSJUK_TABLE numbers less one, as many, and one more */
 static uint16_t *places, *more_places; /* MELTSJUK_PLACES of them, and LATER more */
 static uint8_t *tree_places, *more_tree_places; /* MELTSJUK_TREE_PLACES of them, and LATER more */
 static uint64_t *short_bench, *bench, *more_bench; /* MELTSJUK_BENCH numbers less one, as many, and LATER more */
@@ -95,6 +100,9 @@ static void make_memory(void)
     exact = scratch_of(MELTSJUK_SCRATCH);
     longer = scratch_of(MELTSJUK_SCRATCH + 1);
     large = scratch_of(5248);
+    short_table = scratch_of(MELTSJUK_TABLE - 1);
+    table = scratch_of(MELTSJUK_TABLE);
+    long_table = scratch_of(MELTSJUK_TABLE + 1);
     places = fenced(MELTSJUK_PLACES * sizeof(uint16_t));
     more_places = fenced((MELTSJUK_PLACES + LATER) * sizeof(uint16_t));
     tree_places = fenced(MELTSJUK_TREE_PLACES);
@@ -138,6 +146,12 @@ static void make_parts(void)
 static struct scratch scratch_for(uint64_t line)
 {
     return line % 8 == 1 ? longer : line % 8 == 3 ? large : exact;
+}
+
+/* The same for a call that asks for MELTSJUK_TABLE numbers. */
+static struct scratch table_for(uint64_t line)
+{
+    return line % 8 == 1 ? long_table : table;
 }
 
 /* Sets all bits of the scratch, of the places and of the reply's bytes. */
@@ -243,6 +257,26 @@ static void *too_little(void *unused)
     return unused;
 }
 
+/* The same of the two calls that ask for MELTSJUK_TABLE numbers. */
+static void *too_little_table(void *unused)
+{
+    uint64_t count = 7, k = 7, price = 7;
+
+    set_bits(short_table);
+    set_bits(table);
+    must(meltsjuk_count_up_to(19, 64, short_table.numbers, short_table.length, &count) == MELTSJUK_LITTLE_LENT,
+         "a count up to 64 parts with a short table");
+    must(meltsjuk_cheapest(19, 64, 63, 40, 4, 7, 2, 2, short_table.numbers, short_table.length, places, MELTSJUK_PLACES, &k, &price)
+             == MELTSJUK_LITTLE_LENT,
+         "a cheapest chain with a short table");
+    must(meltsjuk_cheapest(19, 64, 63, 40, 4, 7, 2, 2, table.numbers, table.length, places, MELTSJUK_PLACES - 1, &k, &price)
+             == MELTSJUK_LITTLE_LENT,
+         "a cheapest chain with few places");
+    must(is_left(short_table, 0) && is_left(table, 0) && are_untouched(), "memory written although too little is lent for a table");
+    must(count == 7 && k == 7 && price == 7, "numbers written although too little is lent for a table");
+    return unused;
+}
+
 /* Each call that is lent a scratch, served with this one. */
 static void *served(void *scratch)
 {
@@ -292,6 +326,42 @@ static void *served_apart(void *scratch)
     set_bits(s);
     must(meltsjuk_place(parts, 0, s.numbers, s.length, &position) == MELTSJUK_SERVED && position == 0, "the empty chain's position");
     must(is_left(s, MELTSJUK_SCRATCH), "what placing the empty chain leaves in the scratch");
+    return NULL;
+}
+
+/* The two calls that ask for MELTSJUK_TABLE numbers, served with these. The places may be more than are asked for. */
+static void *served_limited(void *scratch)
+{
+    static const uint64_t counts[6] = {0, 0, 1, 3, 4, 4}; /* 18 1; 16 2 1 and 12 6 1; 12 4 2 1 */
+    static const uint16_t parts[2][3] = {{9, 0}, {7, 4, 0}}; /* 18 1 and 12 6 1 */
+    const struct scratch s = *(const struct scratch *)scratch;
+    uint64_t count = 7, k = 7, price = 7;
+
+    for (uint8_t most = 0; most < 6; most++) {
+        set_bits(s);
+        must(meltsjuk_count_up_to(19, most, s.numbers, s.length, &count) == MELTSJUK_SERVED && count == counts[most],
+             "the count of 19 up to some parts");
+        must(is_left(s, MELTSJUK_TABLE), "what a count up to some parts leaves");
+    }
+    set_bits(s);
+    must(meltsjuk_cheapest(19, 255, 255, 255, 4, 7, 2, 2, s.numbers, s.length, more_places, MELTSJUK_PLACES + LATER, &k, &price)
+             == MELTSJUK_SERVED,
+         "the cheapest chain of 19");
+    must(k == 3 && price == 19 && are_parts(more_places, parts[1], 3, LATER) && is_left(s, MELTSJUK_TABLE),
+         "what a cheapest chain leaves"); /* 18 + 1, the best, costs 20 */
+    set_bits(s);
+    must(meltsjuk_cheapest(19, 2, 63, 40, 4, 7, 2, 2, s.numbers, s.length, places, MELTSJUK_PLACES, &k, &price) == MELTSJUK_SERVED,
+         "the cheapest chain of 19 with two parts");
+    must(k == 2 && price == 20 && are_parts(places, parts[0], 2, 0) && is_left(s, MELTSJUK_TABLE),
+         "what a cheapest chain of two parts leaves");
+    set_bits(s);
+    must(meltsjuk_cheapest(0, 0, 0, 0, 4, 7, 2, 2, s.numbers, s.length, places, MELTSJUK_PLACES, &k, &price) == MELTSJUK_SERVED,
+         "the cheapest chain of 0");
+    must(k == 0 && price == 0 && are_parts(places, parts[0], 0, 0) && is_left(s, MELTSJUK_TABLE), "what the empty chain leaves");
+    set_bits(s);
+    must(meltsjuk_cheapest(19, 1, 63, 40, 4, 7, 2, 2, s.numbers, s.length, places, MELTSJUK_PLACES, &k, &price) == MELTSJUK_NONE_FITS,
+         "a cheapest chain of one part for 19");
+    must(k == 0 && price == 0 && are_untouched() && is_left(s, MELTSJUK_TABLE), "what is left where no chain is within the limits");
     return NULL;
 }
 
@@ -716,6 +786,26 @@ static void *call_choose(void *request)
     return NULL;
 }
 
+static void *call_count_up_to(void *request)
+{
+    struct request *r = request;
+
+    r->status = meltsjuk_count_up_to(field(r->line, 1, 8), (uint8_t)field(r->line, 9, 1), r->scratch.numbers, r->scratch.length,
+                                     &r->count);
+    return NULL;
+}
+
+static void *call_cheapest(void *request)
+{
+    struct request *r = request;
+
+    r->status = meltsjuk_cheapest(field(r->line, 1, 8), (uint8_t)field(r->line, 9, 1), (uint8_t)field(r->line, 10, 1),
+                                  (uint8_t)field(r->line, 11, 1), (uint16_t)field(r->line, 12, 2), (uint16_t)field(r->line, 14, 2),
+                                  (uint16_t)field(r->line, 16, 2), (uint16_t)field(r->line, 18, 2), r->scratch.numbers,
+                                  r->scratch.length, places, MELTSJUK_PLACES, &r->k, &r->price);
+    return NULL;
+}
+
 /* The part numbers that were taken from the line or left in the places. */
 static void *call_place(void *request)
 {
@@ -750,12 +840,17 @@ static void *call_write_tree(void *request)
     return NULL;
 }
 
-/* Makes a call that is lent a scratch. */
-static void with_scratch(void *(*call)(void *), struct request *r)
+/* Makes a call that leaves so many zeros in the scratch that it is lent. */
+static void with_zeros(void *(*call)(void *), struct request *r, size_t zeros)
 {
     set_bits(r->scratch);
     on_small_stack(call, r);
-    must(is_left(r->scratch, MELTSJUK_SCRATCH), "a scratch is not left as it should be");
+    must(is_left(r->scratch, zeros), "a scratch is not left as it should be");
+}
+
+static void with_scratch(void *(*call)(void *), struct request *r)
+{
+    with_zeros(call, r, MELTSJUK_SCRATCH);
 }
 
 static void reply_by_count(struct request *r)
@@ -908,6 +1003,40 @@ static void reply_by_call(struct request *r)
         must(0, "a line that no call serves");
 }
 
+static void tell_count_up_to(struct request *r)
+{
+    with_zeros(call_count_up_to, r, MELTSJUK_TABLE);
+    must(r->status == MELTSJUK_SERVED && are_untouched(), "a count up to some parts is refused");
+    printf("00%016" PRIX64 "\n", r->count);
+}
+
+static void tell_cheapest(struct request *r)
+{
+    r->k = r->price = UINT64_MAX;
+    with_zeros(call_cheapest, r, MELTSJUK_TABLE);
+    printf("%02X", r->status);
+    if (r->status == MELTSJUK_SERVED) {
+        must(r->k <= MELTSJUK_PLACES && are_parts(places, places, (size_t)r->k, 0), "no zeros after the parts of a cheapest chain");
+        printf("%02X", (unsigned)r->k);
+        for (uint64_t i = 0; i < r->k; i++)
+            printf("%04X", places[i]);
+        printf("%08" PRIX64, r->price);
+    } else {
+        must((r->k & r->price) == UINT64_MAX && are_untouched(), "something written although no chain is within the limits");
+    }
+    printf("\n");
+}
+
+static void tell_limited(struct request *r)
+{
+    if (r->length == 20 && strncmp(r->line, "01", 2) == 0)
+        tell_count_up_to(r);
+    else if (r->length == 40 && strncmp(r->line, "02", 2) == 0)
+        tell_cheapest(r);
+    else
+        must(0, "a line that neither call serves");
+}
+
 static void reply_by_line(struct request *r)
 {
     with_scratch(call_reply, r);
@@ -928,11 +1057,14 @@ static void with_each_scratch(void)
         on_small_stack(refused_apart, &each[i]);
         on_small_stack(refused_trees, &each[i]);
     }
+    on_small_stack(served_limited, &table);
+    on_small_stack(served_limited, &long_table);
 }
 
 int main(int argc, char **argv)
 {
     int calls = argc > 1 && strcmp(argv[1], "calls") == 0;
+    int limited = argc > 1 && strcmp(argv[1], "limited") == 0;
     char *line = NULL;
     size_t room = 0;
     uint64_t lines = 0;
@@ -942,17 +1074,21 @@ int main(int argc, char **argv)
     make_memory();
     make_parts();
     while ((got = getline(&line, &room, stdin)) > 0) {
-        struct request r = {.line = line, .length = (size_t)got, .scratch = scratch_for(lines++)};
+        struct request r = {.line = line, .length = (size_t)got, .scratch = limited ? table_for(lines) : scratch_for(lines)};
 
+        lines++;
         if (line[r.length - 1] == '\n')
             r.length--;
-        if (calls)
+        if (limited)
+            tell_limited(&r);
+        else if (calls)
             reply_by_call(&r);
         else
             reply_by_line(&r);
     }
     free(line);
     on_small_stack(too_little, NULL);
+    on_small_stack(too_little_table, NULL);
     with_each_scratch();
     on_small_stack(refused_runs, NULL);
     on_small_stack(refused_writings, NULL);

@@ -5,7 +5,10 @@
 //! the best chain, choosing and placing, the run of a chain and the two for tree words, whose answers are written here as replies.
 //! The calls take and tell chains without a and b of the largest part. So these are passed over in a line, and for a reply they are
 //! looked up. For a line of kind 02 choosing and placing must tell what the best chain tells.
-use meltsjuk::{Limits, Prices, Terminal};
+//! With the argument `limited`: the cheapest chain for lines as those of kind 02, and the count of chains with at most so many parts for
+//! lines as those of kind 01 with one byte more, the number of parts. There are no replies to such calls. Written are 00 and the count in
+//! 8 bytes, or 00, the number of parts, the part numbers and the price in 4 bytes, or the refusal.
+use meltsjuk::{Limits, Prices, Table, Terminal};
 use std::io::{self, BufRead, Write};
 use std::sync::OnceLock;
 
@@ -19,12 +22,17 @@ fn reply_by_count(terminal: &mut Terminal, line: &[u8]) -> String {
     format!("00{:016X}", terminal.count(field(line, 1, 8)))
 }
 
-fn reply_by_best(terminal: &mut Terminal, line: &[u8]) -> String {
-    let n = field(line, 1, 8);
+/// What a line of kind 02 asks with.
+fn asked_in(line: &[u8]) -> (u64, Limits, Prices) {
     let byte = |at| field(line, at, 1) as u8;
     let pair = |at| field(line, at, 2) as u16;
     let limits = Limits { parts: byte(9), doublings: byte(10), triplings: byte(11) };
     let prices = Prices { doubling: pair(12), tripling: pair(14), addition_2: pair(16), addition_3: pair(18) };
+    (field(line, 1, 8), limits, prices)
+}
+
+fn reply_by_best(terminal: &mut Terminal, line: &[u8]) -> String {
+    let (n, limits, prices) = asked_in(line);
     let best = terminal.best(n, limits, prices);
     let chosen = terminal.choose(n, limits, prices);
     let placed = chosen.map(|c| (terminal.place(&c.parts).expect("a chain"), c.parts, c.price));
@@ -67,8 +75,11 @@ fn exponents() -> &'static [(u32, u32)] {
 /// A chain as lines and replies have it: k, a and b of the largest part, the part numbers.
 fn record_of(parts: &[u16]) -> String {
     let (a, b) = parts.first().map_or((0, 0), |&number| exponents()[number as usize]);
-    let numbers: String = parts.iter().map(|number| format!("{number:04X}")).collect();
-    format!("{:02X}{a:02X}{b:02X}{numbers}", parts.len())
+    format!("{:02X}{a:02X}{b:02X}{}", parts.len(), digits_of(parts))
+}
+
+fn digits_of(parts: &[u16]) -> String {
+    parts.iter().map(|number| format!("{number:04X}")).collect()
 }
 
 /// The part numbers of a line; byte `at` says how many they are, and a and b come between.
@@ -113,9 +124,26 @@ fn reply_by_call(terminal: &mut Terminal, line: &[u8]) -> String {
     }
 }
 
+fn tell_cheapest(table: &mut Table, line: &[u8]) -> String {
+    let (n, limits, prices) = asked_in(line);
+    match table.cheapest(n, limits, prices) {
+        None => "05".to_string(),
+        Some(chain) => format!("00{:02X}{}{:08X}", chain.parts.len(), digits_of(&chain.parts), chain.price),
+    }
+}
+
+fn tell_limited(table: &mut Table, line: &[u8]) -> String {
+    match (line.len(), &line[..2]) {
+        (20, b"01") => format!("00{:016X}", table.count_up_to(field(line, 1, 8), field(line, 9, 1) as u8)),
+        (40, b"02") => tell_cheapest(table, line),
+        _ => panic!("a line that neither call serves"),
+    }
+}
+
 fn main() -> io::Result<()> {
-    let calls = std::env::args().nth(1).as_deref() == Some("calls");
+    let mode = std::env::args().nth(1).unwrap_or_default();
     let mut terminal = Terminal::new();
+    let mut table = Table::new();
     let mut input = io::stdin().lock();
     let mut output = io::BufWriter::new(io::stdout().lock());
     let mut line = Vec::new();
@@ -123,10 +151,10 @@ fn main() -> io::Result<()> {
         if line.last() == Some(&b'\n') {
             line.pop();
         }
-        if calls {
-            writeln!(output, "{}", reply_by_call(&mut terminal, &line))?;
-        } else {
-            writeln!(output, "{}", terminal.reply(&line))?;
+        match mode.as_str() {
+            "calls" => writeln!(output, "{}", reply_by_call(&mut terminal, &line))?,
+            "limited" => writeln!(output, "{}", tell_limited(&mut table, &line))?,
+            _ => writeln!(output, "{}", terminal.reply(&line))?,
         }
         line.clear();
     }

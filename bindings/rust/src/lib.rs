@@ -2,10 +2,10 @@
 //!
 //! A chain writes a number as a sum of parts 2^a × 3^b, each a proper multiple of the next: 19 = 18 + 1. A [`Terminal`] counts the
 //! chains of a number, finds its best chain, tells the position of a chain, reads tree words, and replies to lines of hexadecimal;
-//! [`run`] runs a chain on a residue, and [`write_tree`] writes a chain's tree word. A [`Bench`] moves a chain by hand. The library
-//! behind them is proved to meet its contracts in crates/meltsjuk/src/lib.rt for every argument; this package lends it the memory
-//! that it asks for. For x86-64 Linux. A thread of Rust's usual size has stack enough; bindings/c/meltsjuk.h says how much a call
-//! needs.
+//! [`run`] runs a chain on a residue, and [`write_tree`] writes a chain's tree word. A [`Table`] finds the cheapest chain of a number,
+//! and counts the chains that have at most so many parts. A [`Bench`] moves a chain by hand. The library behind them is proved to
+//! meet its contracts in crates/meltsjuk/src/lib.rt for every argument; this package lends it the memory that it asks for. For x86-64
+//! Linux. A thread of Rust's usual size has stack enough; bindings/c/meltsjuk.h says how much a call needs.
 //!
 //! ```
 //! let mut terminal = meltsjuk::Terminal::new();
@@ -18,6 +18,7 @@
 #![warn(missing_docs)]
 
 const SCRATCH: usize = 512;
+const TABLE: usize = 174720;
 const PLACES: usize = 64;
 const TREE_PLACES: usize = 160;
 const REPLY: usize = 514;
@@ -36,6 +37,8 @@ mod archive {
         ) -> u64;
 
         pub fn meltsjuk_count(n: u64, scratch: *mut u64, scratch_length: usize, count: *mut u64) -> u8;
+
+        pub fn meltsjuk_count_up_to(n: u64, parts: u8, scratch: *mut u64, scratch_length: usize, count: *mut u64) -> u8;
 
         pub fn meltsjuk_best(
             n: u64,
@@ -56,6 +59,23 @@ mod archive {
         ) -> u8;
 
         pub fn meltsjuk_choose(
+            n: u64,
+            parts_limit: u8,
+            a_limit: u8,
+            b_limit: u8,
+            d: u16,
+            t: u16,
+            s2: u16,
+            s3: u16,
+            scratch: *mut u64,
+            scratch_length: usize,
+            places: *mut u16,
+            places_length: usize,
+            k: *mut u64,
+            price: *mut u64,
+        ) -> u8;
+
+        pub fn meltsjuk_cheapest(
             n: u64,
             parts_limit: u8,
             a_limit: u8,
@@ -123,7 +143,7 @@ mod archive {
     }
 }
 
-/// What a best chain must stay within. Limits above 64, 63 and 40 exclude nothing, and the default excludes nothing.
+/// What a best or cheapest chain must stay within. Limits above 64, 63 and 40 exclude nothing, and the default excludes nothing.
 #[derive(Clone, Copy, Debug, PartialEq, Eq)]
 pub struct Limits {
     /// How many parts it may have.
@@ -167,7 +187,7 @@ pub struct Best {
     pub price: u64,
 }
 
-/// The best chain of a number, as [`Terminal::choose`] tells it: without its position.
+/// The best chain of a number, as [`Terminal::choose`] tells it, or the cheapest, as [`Table::cheapest`] does: without its position.
 #[derive(Clone, Debug, PartialEq, Eq)]
 pub struct Chosen {
     /// Its part numbers, largest part first: indices in the table of all parts below 2^64, ascending from number 0.
@@ -438,7 +458,7 @@ fn done(status: u8) -> Result<(), Refusal> {
     }
 }
 
-/// The services that are lent memory, with that memory.
+/// The services that are lent a scratch of 512 numbers, with that memory. Those that are lent more are a [`Table`]'s.
 #[derive(Clone, Debug)]
 pub struct Terminal {
     scratch: Vec<u64>,
@@ -671,5 +691,92 @@ impl Terminal {
             0 => Ok(Chain { n, position, parts: self.places[..k as usize].to_vec() }),
             _ => Err(Refusal::of(status)),
         }
+    }
+}
+
+/// The two services that go by the number of parts of a chain, with the memory that they are lent, 1.4 MB. A call takes longer than
+/// one by a [`Terminal`].
+#[derive(Clone, Debug)]
+pub struct Table {
+    numbers: Vec<u64>,
+    places: [u16; PLACES],
+}
+
+impl Default for Table {
+    fn default() -> Self {
+        Table::new()
+    }
+}
+
+impl Table {
+    /// A table, with its memory.
+    pub fn new() -> Self {
+        Table { numbers: vec![0; TABLE], places: [0; PLACES] }
+    }
+
+    /// The cheapest chain of n within the limits: the lowest price, then the fewest parts, then the earliest position. None where no
+    /// chain is within the limits. The number 0 has the empty chain, within any. [`Terminal::place`] tells the position.
+    ///
+    /// ```
+    /// use meltsjuk::{Limits, Prices, Table, Terminal};
+    ///
+    /// let prices = Prices { doubling: 4, tripling: 7, addition_2: 2, addition_3: 2 };
+    /// let best = Terminal::new().choose(19, Limits::default(), prices).unwrap();
+    /// assert_eq!((&best.parts[..], best.price), (&[9, 0][..], 20)); // 18 + 1
+    /// let mut table = Table::new();
+    /// let cheapest = table.cheapest(19, Limits::default(), prices).unwrap();
+    /// assert_eq!((&cheapest.parts[..], cheapest.price), (&[7, 4, 0][..], 19)); // 12 + 6 + 1: a part more, and cheaper
+    /// assert_eq!(Terminal::new().place(&cheapest.parts), Ok(2));
+    /// let two = Limits { parts: 2, ..Limits::default() };
+    /// assert_eq!(table.cheapest(19, two, prices), Some(best));
+    /// assert_eq!(table.cheapest(19, Limits { parts: 1, ..two }, prices), None);
+    /// ```
+    pub fn cheapest(&mut self, n: u64, limits: Limits, prices: Prices) -> Option<Chosen> {
+        let (mut k, mut price) = (0, 0);
+        // Sound: the numbers and the places are of the lengths told, and the two other numbers are locals.
+        let status = unsafe {
+            archive::meltsjuk_cheapest(
+                n,
+                limits.parts,
+                limits.doublings,
+                limits.triplings,
+                prices.doubling,
+                prices.tripling,
+                prices.addition_2,
+                prices.addition_3,
+                self.numbers.as_mut_ptr(),
+                self.numbers.len(),
+                self.places.as_mut_ptr(),
+                self.places.len(),
+                &mut k,
+                &mut price,
+            )
+        };
+        match status {
+            0 => Some(Chosen { parts: self.places[..k as usize].to_vec(), price }),
+            5 => None,
+            _ => panic!("{TABLE} numbers and {PLACES} places are enough"),
+        }
+    }
+
+    /// How many chains of n have at most so many parts: 0 where there is none. The number 0 has one, the empty chain. No chain has
+    /// more than 64 parts, so from 64 on this is the count that [`Terminal::count`] tells.
+    ///
+    /// ```
+    /// let mut table = meltsjuk::Table::new();
+    /// // 18 + 1; 16 + 2 + 1 and 12 + 6 + 1; 12 + 4 + 2 + 1
+    /// let counts: Vec<u64> = (0..6).map(|parts| table.count_up_to(19, parts)).collect();
+    /// assert_eq!(counts, [0, 0, 1, 3, 4, 4]);
+    /// assert_eq!(table.count_up_to(0, 0), 1);
+    /// assert_eq!(table.count_up_to(u64::MAX, 64), meltsjuk::Terminal::new().count(u64::MAX));
+    /// ```
+    pub fn count_up_to(&mut self, n: u64, parts: u8) -> u64 {
+        let mut count = 0;
+        // Sound: the numbers are of the length told, and `count` is a local.
+        let status = unsafe {
+            archive::meltsjuk_count_up_to(n, parts, self.numbers.as_mut_ptr(), self.numbers.len(), &mut count)
+        };
+        assert_eq!(status, 0, "{TABLE} numbers are enough");
+        count
     }
 }

@@ -16,13 +16,14 @@ use Rattle.chains.specs.Chains.{Part, ChainOf}
 use Rattle.chains.specs.Words.{Word, origin, chainFrom, chainOf, reads}
 use Rattle.chains.specs.Listing.{wordsAt}
 use Rattle.chains.specs.Best.{Prices, price, Limits, bestChain}
-use Rattle.chains.specs.BestLaws.{best-of-zero}
+use Rattle.chains.specs.BestLaws.{first-of-zero}
 use Rattle.chains.specs.Weight.{weight, total-chainOf}
 use Rattle.chains.specs.Members.{member-words}
 use Rattle.chains.specs.RoundTrip.{word-chained}
 use Rattle.chains.specs.Bounds.{letters-bound, parts-bound}
-use Rattle.chains.specs.Keys.{key, inGrid, bestAt, keyOr, leastKey}
-use Rattle.chains.specs.Bests.{FirstLeast, first-member, best-found}
+use Rattle.chains.specs.Keys.{key, inGrid, bestAt, keyOr, leastOn, leastKey}
+use Rattle.chains.specs.Leasts.{FirstLeast, first-member}
+use Rattle.chains.specs.Bests.{best-found}
 use Rattle.chains.specs.BestOfAll.{costsOf, upTo, leastKeyed, key-price, keyed-is-best}
 use Rattle.chains.specs.PriceLaws.{price-fits}
 use Rattle.words.specs.Packed.{bits, rise, mark}
@@ -37,6 +38,7 @@ use Rattle.best.specs.KeyRows.{KeysStart, KeysFilled}
 use Rattle.best.specs.Walk.{bestFrom, bestWord, KeyStart}
 use Rattle.best.specs.WalkLaws.{best-chosen}
 use Rattle.best.specs.Choosing.{WordChosen, ChosenBy}
+use Rattle.best.specs.ChosenLaws.{zero-word}
 
 -- By the case that was met.
 module _ (n : ℕ) (lim : Limits) (π : Prices) (r : Choice) (h : ChosenBy n lim π r) where
@@ -49,17 +51,8 @@ module _ (n : ℕ) (lim : Limits) (π : Prices) (r : Choice) (h : ChosenBy n lim
 -- ---- the number 0
 
 pub zero-chosen : (n : ℕ) (lim : Limits) (π : Prices) → n ≡ 0 → WordChosen n lim π 0 0 0
-unfolding bits reads chainOf chainFrom price
-zero-chosen n lim π e =
-    record {
-      word = [];
-      rising = refl;
-      marking = refl;
-      good = tt;
-      few = omega arith;
-      chain = rw e (best-of-zero lim (price π));
-      told = refl;
-    }
+unfolding price
+zero-chosen n lim π e = zero-word (rw e (first-of-zero lim length (price π))) refl
 
 -- ---- the least key
 
@@ -84,7 +77,7 @@ module _ {n : ℕ} (lim : Limits) (π : Prices) (fits : n < 2 ^ 64) (cheap : Che
   -- The least key tells the parts and the price of its chain.
   least-tells : (w : Word) → best ≡ some w
       → (leastOf ≡ partWeight * length (chainOf w) + price π (chainOf w)) × (price π (chainOf w) < partWeight)
-  unfolding leastKey keyOr
+  unfolding leastOn keyOr
   least-tells w e =
       let m = listed w e in
       let c : ChainOf n (chainOf w) = record { chained = word-chained w; sums = total-chainOf w ∙ m .1 } in

@@ -4,20 +4,19 @@
 -- In this order: what demand 3 asks of an answer and of the places; the outcome (`given-is-best`, `refused-none`), and what a
 -- caller gets where enough is lent, the answer and the places, from choosing (`chosen-demand-3`) and from the best chain
 -- (`demand-3`); the number 0; limits above 64, 63 and 40; the same price for every addition.
-use mathlib.Core.Path.{_≡_, refl, sym, ap}
+use mathlib.Core.Path.{_≡_, refl, ap}
 use mathlib.Core.Logic.{_↔_}
-use mathlib.Core.List.{List, [], _∷_, map}
+use mathlib.Core.List.{List, [], map}
 use mathlib.Core.Option.{Option, none, some}
-use Prim.Native.Nat.{ℕ, _^_, _<_, min}
+use Prim.Native.Nat.{ℕ, _^_, _<_}
 use native.Mathlib.Omega.{arith}
 use lib.ListN.{length}
 use Rattle.lent.specs.Lent.{filled, Enough}
-use Rattle.chains.specs.Chains.{Part, ChainOf}
+use Rattle.chains.specs.Chains.{Part}
 use Rattle.chains.specs.Listing.{position}
-use Rattle.chains.specs.Best.{Prices, price, Limits, Within, NoneFits, IsBest, bestChain}
-use Rattle.chains.specs.BestLaws.{best-unique, best-chain, best-none, best-of-zero}
+use Rattle.chains.specs.Best.{Prices, price, Limits, cut, NoneFits, IsBest, bestChain}
+use Rattle.chains.specs.BestLaws.{first-unique, best-chain, best-none, first-of-zero, first-cut}
 use Rattle.chains.specs.OnePrice.{earlierPrice, sForBoth, one-price, one-price-chosen}
-use Rattle.chains.specs.Bounds.{chain-bounds}
 use Rattle.parts.specs.Parts.{partNumber}
 use Rattle.ranking.specs.Services.{Outcome, refused, gives, lent, placesLeft}
 use Rattle.ranking.specs.RoundTrips.{lent-all}
@@ -83,7 +82,7 @@ module _ (n : ℕ) (lim : Limits) (π : Prices) where
   given-is-best c = (λ e. given-best n c e .1, is-given (bestOutcome n lim (price π)) told)
     where
       is-given : (o : Outcome) → Told o → IsBest n lim (price π) c → o ≡ gives n c
-      is-given o (fitting c′ b′) b = ap (gives n) (best-unique n lim (price π) c′ c b′ b)
+      is-given o (fitting c′ b′) b = ap (gives n) (first-unique n lim length (price π) c′ c b′ b)
       is-given o (nothing f) b = absurd (f c (b .chain) (b .within))
 
   -- it refuses with 5 exactly where there is none.
@@ -127,33 +126,13 @@ module _ (n : ℕ) (lim : Limits) (π : Prices) where
 -- The empty chain, for all limits and prices.
 pub zero-given : (lim : Limits) (π : Prices) → bestOutcome 0 lim (price π) ≡ gives 0 []
 unfolding bestOutcome orNone
-zero-given lim π = rw (best-of-zero lim (price π))
+zero-given lim π = rw (first-of-zero lim length (price π))
 
 -- ---- limits above 64, 63 and 40 exclude nothing
 
--- The limits cut down to those.
-unfoldable pub cut : Limits → Limits
-cut lim = record { K = min (lim .K) 64; A = min (lim .A) 63; B = min (lim .B) 40 }
-
-module _ {n : ℕ} (fits : n < 2 ^ 64) where
-  -- The same chains are within them.
-  within-cut : (lim : Limits) (c : List Part) → ChainOf n c → Within lim c ↔ Within (cut lim) c
-  unfolding Within cut
-  within-cut lim [] h = (λ _. tt, λ _. tt)
-  within-cut lim (p ∷ c) h =
-      let l = chain-bounds n p c fits h in
-      (λ w. (omega arith, omega arith, omega arith), λ w. (omega arith, omega arith, omega arith))
-
-  pub limits-cut : (lim : Limits) (π : Prices) → bestOutcome n lim (price π) ≡ bestOutcome n (cut lim) (price π)
-  limits-cut lim π = go (bestOutcome n lim (price π)) (told n lim π)
-    where
-      go : (o : Outcome) → Told n lim π o → o ≡ bestOutcome n (cut lim) (price π)
-      go o (fitting c b) = sym (given-is-best n (cut lim) π c .1 (record {
-        chain = b .chain;
-        within = within-cut lim c (b .chain) .0 (b .within);
-        best = λ c′ h w d. b .best c′ h (within-cut lim c′ h .1 w) d;
-      }))
-      go o (nothing f) = sym (refused-none n (cut lim) π .1 (λ c h w. f c h (within-cut lim c h .1 w)))
+pub limits-cut : {n : ℕ} → n < 2 ^ 64 → (lim : Limits) (π : Prices) → bestOutcome n lim (price π) ≡ bestOutcome n (cut lim) (price π)
+unfolding bestOutcome
+limits-cut {n} fits lim π = rw (first-cut n lim length (price π) fits)
 
 -- ---- the same price for every addition
 

@@ -6,7 +6,7 @@
 use mathlib.Core.Path.{_≡_, refl, sym, ap, fun-ext, _∙_}
 use mathlib.Core.Logic.{_⊎_, ⊎-elim}
 use mathlib.Core.Bool.{Bool, true, false, cond}
-use mathlib.Core.List.{List}
+use mathlib.Core.List.{List, [], _∷_}
 use Prim.Native.Nat.{ℕ, zero, suc, _+_, _/_, _%_, _≤_, _<_, min}
 use native.Mathlib.Decide.{decLt}
 use native.Mathlib.Nat.{lt-of-not-le}
@@ -26,16 +26,21 @@ use Rattle.best.specs.KeyTable.{keyCell, thirdKey, halfKey, turnAt, pick
 
 -- ---- costs
 
-pub prices-low : (π : Prices) → Cheap π → Low (letterCosts π)
-prices-low π c = record { each = each }
+-- Five costs, each of which is at most `noKey`.
+pub five-low : (c₀ c₁ c₂ c₃ c₄ : ℕ) → (c₀ ≤ noKey) × (c₁ ≤ noKey) × (c₂ ≤ noKey) × (c₃ ≤ noKey) × (c₄ ≤ noKey)
+    → Low (c₀ ∷ c₁ ∷ c₂ ∷ c₃ ∷ c₄ ∷ [])
+five-low c₀ c₁ c₂ c₃ c₄ h = record { each = each }
   where
-    each : (l : ℕ) → getD (letterCosts π) l 0 ≤ noKey
-    each zero = omega arith
-    each (suc zero) = omega arith
-    each (suc (suc zero)) = omega arith
-    each (suc (suc (suc zero))) = omega arith
-    each (suc (suc (suc (suc zero)))) = omega arith
+    each : (l : ℕ) → getD (c₀ ∷ c₁ ∷ c₂ ∷ c₃ ∷ c₄ ∷ []) l 0 ≤ noKey
+    each zero = h .0
+    each (suc zero) = h .1
+    each (suc (suc zero)) = h .2
+    each (suc (suc (suc zero))) = h .3
+    each (suc (suc (suc (suc zero)))) = h .4
     each (suc (suc (suc (suc (suc l))))) = omega arith
+
+pub prices-low : (π : Prices) → Cheap π → Low (letterCosts π)
+prices-low π c = five-low _ _ _ _ _ (omega arith, omega arith, omega arith, omega arith, omega arith)
 
 pub prices-costs : (π : Prices) → costsBy (letterCosts π) ≡ costsOf partWeight π
 unfolding costsOf letterCost letterBy

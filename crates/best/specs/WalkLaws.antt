@@ -6,7 +6,7 @@
 use mathlib.Core.Path.{_≡_, refl, sym, ap, subst, _∙_}
 use mathlib.Core.Bool.{Bool, true, false, cond}
 use mathlib.Core.List.{List, [], _∷_}
-use mathlib.Core.Option.{Option, none, some, Option·none-ne-some}
+use mathlib.Core.Option.{Option, none, some}
 use Prim.Native.Nat.{ℕ, zero, suc, _+_, _*_, _/_, _%_, _^_, _-_, _≤_, _<_, min}
 use native.Mathlib.Nat.{add-zero, le-div-iff-mul-le, lt-of-not-le, mod-eq-of-lt, mul-assoc, pow-suc}
 use native.Mathlib.Numerals.{add-one, one-add}
@@ -21,7 +21,8 @@ use Rattle.chains.specs.Chains.{Part}
 use Rattle.chains.specs.Words.{Word, origin, right, up}
 use Rattle.chains.specs.Members.{rises}
 use Rattle.chains.specs.Keys.{inside}
-use Rattle.chains.specs.Bests.{lead, keyA, rises-low, third-left, best-one, take-a, take-b, least-told}
+use Rattle.chains.specs.Carried.{lead, lead-word, cond-word, rises-low, third-left}
+use Rattle.chains.specs.Bests.{keyA, best-one, take-a, take-b, least-told}
 use Rattle.grid.specs.Grid.{restAt, restsPlace}
 use Rattle.grid.specs.Masks.{onesOf}
 use Rattle.grid.specs.MaskLaws.{ones-bit}
@@ -33,14 +34,6 @@ use Rattle.best.specs.Walk.{Turned, risesBy, bestFrom, wordIn, bestWord,
 use Rattle.best.specs.Walk.{FirstBits, KeyTelling, ColumnAsked, TurnFrom, ColumnFound, WalkedTo, RowWalk}
 
 -- ---- a letter before a word
-
-lead-word : (l : ℕ) (o : Option Word) (w : Word) → lead l o ≡ some w → (v : Word) × (o ≡ some v) × (w ≡ l ∷ v)
-lead-word l none w e = absurd (Option·none-ne-some w e)
-lead-word l (some v) w e = (v, refl, cc)
-
-cond-word : (i : Bool) (o : Option Word) (w : Word) → cond i o none ≡ some w → T i × (o ≡ some w)
-cond-word true o w e = (tt, e)
-cond-word false o w e = absurd (Option·none-ne-some w e)
 
 drop-more : (w v : Word) (k x : ℕ) → drop k w ≡ x ∷ v → drop (k + 1) w ≡ v
 drop-more w v k x e = rw (← drop-drop 1 k w, e)

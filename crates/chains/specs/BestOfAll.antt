@@ -1,38 +1,45 @@
--- The best chain over all chains of n is that of the best word: document 01, 'Services and memory'; demand 3.
+-- The best chain over all chains of n, and the cheapest, are those of the best words: document 01, 'Services and memory'; document 02,
+-- T-10; demand 3.
 --
 -- First the definitions: the costs of letters for the four prices, where a part counts M, and the chain that they choose
--- (`leastKeyed`). Then: the key of a word is M for each part of its chain, and the chain's price (`key-price`); the limits on a
--- word; the first word of least key has the earliest position. Last the theorem of record: where no price reaches M, the chain of
--- least key is the best chain (`keyed-is-best`).
+-- (`leastKeyed`); what the price counts in the key of the cheapest word. Then: the key of a word is M for each part of its chain, and
+-- the chain's price (`key-price`); the limits on a word; the first word of least key has the earliest position, so that its chain is the
+-- first of all by two measures, if the key is made of them (`first-ahead`). Last the theorems of record: where no price reaches M, the
+-- chain of least key is the best chain (`keyed-is-best`); where a key is 128 times the price and the parts, the chain of least key within
+-- all limits is the cheapest (`keyed-is-cheapest`).
 --
--- The best word is defined in Keys and found in Bests; price, limits and the best chain are defined in Best.
+-- The best word is defined in Keys and found in Carried; price, limits, the best chain and the cheapest are defined in Best.
 use mathlib.Core.Path.{_≡_, refl, sym, ap, _∙_}
-use mathlib.Core.Logic.{_↔_, _≢_, _⊎_, inl, inr, ⊎-elim}
+use mathlib.Core.Logic.{_↔_, _≢_, _⊎_, inl, inr}
 use mathlib.Core.Bool.{Bool, true, false, cond}
 use mathlib.Core.List.{List, [], _∷_, List·Memᴰ}
-use mathlib.Core.Option.{Option, none, some}
-use Prim.Native.Nat.{ℕ, zero, suc, _+_, _*_, _≤_, _<_}
+use mathlib.Core.Option.{Option, none, some, Option·map}
+use Prim.Native.Nat.{ℕ, zero, suc, _+_, _*_, _^_, _≤_, _<_}
 use native.Mathlib.Nat.{mul-suc, mul-le-mul-left}
 use native.Mathlib.Decide.{decLt}
 use native.Mathlib.Omega.{arith}
-use lib.Dec.{T, leb}
+use lib.Dec.{T, leb, leb→le, le→leb}
 use lib.ListN.{length, getD, length-append, List·getD-append}
 use lib.Seq.{getD-append-seam}
-use mir.Facts.{and-yes}
+use mir.Facts.{and-yes, yes-and}
 use borrow.Author.Tests.{leb-true, leb-false}
 use Rattle.chains.specs.Chains.{Part, ChainOf}
 use Rattle.chains.specs.Words.{Word, origin, wordOf, right, up, chainFrom, chainOf, someLeft, reads}
 use Rattle.chains.specs.Listing.{wordsAt, listOf, countBefore, position}
-use Rattle.chains.specs.Best.{Prices, additions, price, Limits, Within, Better, IsBest, bestChain}
-use Rattle.chains.specs.BestLaws.{Answers, best-chain, best-none}
-use Rattle.chains.specs.Weight.{weight, total-chainOf}
+use Rattle.chains.specs.Best.{Prices, additions, price, Limits, Within, Measure, Ahead, bestChain, cheapestChain}
+use Rattle.chains.specs.BestLaws.{Answers, is-first, no-less}
+use Rattle.chains.specs.Weight.{total-chainOf}
+use Rattle.chains.specs.Bounds.{parts-bound}
 use Rattle.chains.specs.Members.{member-words, getD-member}
 use Rattle.chains.specs.Listed.{chain-listed}
 use Rattle.chains.specs.Positions.{words-position, words-at-position}
 use Rattle.chains.specs.RoundTrip.{chain-word-chain, word-reads, word-chained, word-chain-word}
 use Rattle.chains.specs.PriceLaws.{no-addition, addition-2, addition-3, last-point, some-3}
-use Rattle.chains.specs.Keys.{Costs, key, next, lastPoint, inGrid, bestAt}
-use Rattle.chains.specs.Bests.{FirstLeast, Found, first-member, first-no-less, inside-bounds, best-found}
+use Rattle.chains.specs.Keys.{Costs, key, next, lastPoint, inGrid, parts, limitedBy, bestOn, bestAt}
+use Rattle.chains.specs.Leasts.{FirstLeast, Found, first-member, first-no-less}
+use Rattle.chains.specs.Carried.{best-on-found}
+use Rattle.chains.specs.Bests.{inside-bounds, best-found}
+use Rattle.chains.specs.PartLimit.{parts-chain, limited-carried}
 
 -- ---- the chain that the costs choose
 
@@ -56,6 +63,10 @@ upTo K (some w) = cond (leb (length (chainOf w)) K) (some (chainOf w)) none
 -- The chain of the best word from (0, 0) on: A and B cut the grid, and K is looked at once, at the end.
 unfoldable pub leastKeyed : ℕ → ℕ → Limits → Prices → Option (List Part)
 leastKeyed M n lim π = upTo (lim .K) (bestAt (costsOf M π) (lim .A) (lim .B) true origin n)
+
+-- What a unit of the price counts in the key of the cheapest word, where a part counts 1.
+abbrev pub priceWeight : ℕ
+priceWeight = 128
 
 -- ---- the key and the end of a word
 
@@ -126,17 +137,17 @@ module _ (M : ℕ) (π : Prices) where
       let same : additions π (wordOf (chainOf (l ∷ w))) ≡ additions π (l ∷ w) = ap (additions π) (word-chain-word (l ∷ w) h) in
       rw (r .chain) (rw (mul-suc M (length (r .below))) (omega (arith, r .costs, rw (r .chain) at same)))
 
-  -- The chain of a word is within the limits if it has at most K parts and the word ends in the grid.
-  within-word :
-      (lim : Limits) (w : Word)
-      → T (reads true w)
-      → Within lim (chainOf w) ↔ ((length (chainOf w) ≤ lim .K) × T (inGrid (lim .A) (lim .B) origin w))
-  unfolding Within chainOf chainFrom inGrid someLeft
-  within-word lim [] h = (λ _. (omega arith, tt), λ _. tt)
-  within-word lim (l ∷ w) h =
-      let r = walked true origin [] (l ∷ w) h tt in
-      let i = inside-bounds (lim .A) (lim .B) (lastPoint origin (l ∷ w)) in
-      rw (r .chain) (λ b. (b .0, i .1 (b .1, b .2)), λ b. (b .0, i .0 (b .1) .0, i .0 (b .1) .1))
+-- The chain of a word is within the limits if it has at most K parts and the word ends in the grid.
+pub within-word :
+    (lim : Limits) (w : Word)
+    → T (reads true w)
+    → Within lim (chainOf w) ↔ ((length (chainOf w) ≤ lim .K) × T (inGrid (lim .A) (lim .B) origin w))
+unfolding Within chainOf chainFrom inGrid someLeft
+within-word lim [] h = (λ _. (omega arith, tt), λ _. tt)
+within-word lim (l ∷ w) h =
+    let r = walked 0 (record { d = 0; t = 0; s2 = 0; s3 = 0 }) true origin [] (l ∷ w) h tt in
+    let i = inside-bounds (lim .A) (lim .B) (lastPoint origin (l ∷ w)) in
+    rw (r .chain) (λ b. (b .0, i .1 (b .1, b .2)), λ b. (b .0, i .0 (b .1) .0, i .0 (b .1) .1))
 
 -- ---- positions
 
@@ -176,7 +187,7 @@ first-position t g n w v r m p k d = go (decLt i j) (decLt j i)
         let e : j ≡ i = omega arith in
         absurd (d (sym at-j ∙ ap (λ (l : ℕ). getD (wordsAt true n) l []) e ∙ at-i))
 
--- ---- the best chain
+-- ---- the first chain
 
 -- Two numbers of two digits each in base M.
 by-digits : (M k k′ x x′ : ℕ) → x < M → x′ < M → M * k + x ≤ M * k′ + x′ → (k < k′) ⊎ ((k ≡ k′) × (x ≤ x′))
@@ -186,6 +197,57 @@ by-digits M k k′ x x′ h h′ e = go (decLt k k′) (decLt k′ k)
     go (yes l) d = inl l
     go (no l) (yes g) = absurd (omega (arith, mul-le-mul-left M g, mul-suc M k′))
     go (no l) (no g) = let q : k ≡ k′ = omega arith in inr (q, omega (arith, ap (λ (i : ℕ). M * i) q))
+
+-- A word of the list of n is good, and its chain is one of n.
+pub listed-chain : (n : ℕ) (w : Word) → List·Memᴰ w (wordsAt true n) → T (reads true w) × ChainOf n (chainOf w)
+listed-chain n w m =
+    let l = member-words true n w .0 m in (l .0, record { chained = word-chained w; sums = total-chainOf w ∙ l .1 })
+
+-- The first word of least key, where the key is M times a first measure and a second one that stays below M: of the chains whose words
+-- pass, its chain is the first by the two measures.
+module _
+    (M n : ℕ) (major minor : Measure) (t : Word → Bool) (g : Word → ℕ)
+    (keyed : (w : Word) → T (reads true w) → g w ≡ M * major (chainOf w) + minor (chainOf w))
+    (small : (c : List Part) → ChainOf n c → minor c < M)
+    (w : Word) (r : FirstLeast t g (wordsAt true n) w)
+  where
+    listed : T (reads true w) × ChainOf n (chainOf w)
+    listed = listed-chain n w (first-member t g r)
+
+    key-of : (c : List Part) → ChainOf n c → g (wordOf c) ≡ M * major c + minor c
+    key-of c h = rw (chain-word-chain c (h .chained)) at (keyed (wordOf c) (word-reads c))
+
+    pub first-ahead : (c : List Part) → ChainOf n c → T (t (wordOf c)) → c ≢ chainOf w → Ahead n major minor (chainOf w) c
+    unfolding Ahead position listOf
+    first-ahead c h p d =
+        go (decLt (minor (chainOf w)) (minor c))
+        (by-digits M (major (chainOf w)) (major c) (minor (chainOf w)) (minor c)
+        (small (chainOf w) (listed .1))
+        (small c h)
+        (omega (arith, keyed w (listed .0), key-of c h, first-no-less t g r (wordOf c) (chain-listed n c h) p)))
+      where
+        go :
+            Dec (minor (chainOf w) < minor c)
+            → (major (chainOf w) < major c) ⊎ ((major (chainOf w) ≡ major c) × (minor (chainOf w) ≤ minor c))
+            → Ahead n major minor (chainOf w) c
+        go l (inl k) = inl k
+        go (yes l) (inr e) = inr (e .0, inl l)
+        go (no l) (inr e) =
+            let same : minor (chainOf w) ≡ minor c = omega arith in
+            inr (
+              e .0,
+              inr (
+                same,
+                rw (word-chain-word w (listed .0))
+                    (first-position t g n w (wordOf c) r
+                    (chain-listed n c h)
+                    p
+                    (omega (arith, keyed w (listed .0), key-of c h, ap (λ (k : ℕ). M * k) (e .0)))
+                    (λ (q : wordOf c ≡ w). d (sym (chain-word-chain c (h .chained)) ∙ ap chainOf q))),
+              ),
+            )
+
+-- ---- the best chain
 
 module _ (M n : ℕ) (lim : Limits) (π : Prices) (cheap : (c : List Part) → ChainOf n c → price π c < M) where
   -- What the best word is chosen by: a word that ends in the grid, of least key.
@@ -197,98 +259,88 @@ module _ (M n : ℕ) (lim : Limits) (π : Prices) (cheap : (c : List Part) → C
 
   -- The same of a chain's word.
   fits : (c : List Part) → ChainOf n c → Within lim c ↔ ((length c ≤ lim .K) × T (ends (wordOf c)))
-  fits c h = rw (chain-word-chain c (h .chained)) at (within-word M π lim (wordOf c) (word-reads c))
+  fits c h = rw (chain-word-chain c (h .chained)) at (within-word lim (wordOf c) (word-reads c))
 
-  cost-chain : (c : List Part) → ChainOf n c → cost (wordOf c) ≡ M * length c + price π c
-  cost-chain c h = rw (chain-word-chain c (h .chained)) at (key-price M π (wordOf c) (word-reads c))
-
+  -- The chain of the first word of least key goes before every other chain within the limits, so none has fewer parts.
   module _ (w : Word) (r : FirstLeast ends cost (wordsAt true n) w) where
-    listed : T (reads true w) × (weight w ≡ n)
-    listed = member-words true n w .0 (first-member ends cost r)
+    ahead : (c : List Part) → ChainOf n c → Within lim c → c ≢ chainOf w → Ahead n length (price π) (chainOf w) c
+    ahead c h b d = first-ahead M n length (price π) ends cost (key-price M π) cheap w r c h (fits c h .0 b .1) d
 
-    chain-of : ChainOf n (chainOf w)
-    chain-of = record { chained = word-chained w; sums = total-chainOf w ∙ listed .1 }
+    no-fewer : (c : List Part) → ChainOf n c → Within lim c → length (chainOf w) ≤ length c
+    no-fewer c h b = no-less n length (price π) (chainOf w) c (ahead c h b)
 
-    -- No chain has fewer parts, or as many and a lower price.
-    no-better :
-        (c : List Part)
-        → ChainOf n c
-        → Within lim c
-        → (length (chainOf w) < length c) ⊎ ((length (chainOf w) ≡ length c) × (price π (chainOf w) ≤ price π c))
-    unfolding listOf
-    no-better c h b =
-        let l = first-no-less ends cost r (wordOf c) (chain-listed n c h) (fits c h .0 b .1) in
-        by-digits M (length (chainOf w)) (length c) (price π (chainOf w)) (price π c)
-        (cheap (chainOf w) chain-of)
-        (cheap c h)
-        (omega (arith, key-price M π w (listed .0), cost-chain c h))
-
-    -- Another with as many parts and no higher price has a later position.
-    later :
-        (c : List Part)
-        → ChainOf n c
-        → Within lim c
-        → c ≢ chainOf w
-        → length (chainOf w) ≡ length c
-        → price π c ≤ price π (chainOf w)
-        → position n (chainOf w) < position n c
-    unfolding position listOf
-    later c h b d e p =
-        rw (word-chain-word w (listed .0))
-        (first-position ends cost n w (wordOf c) r
-        (chain-listed n c h)
-        (fits c h .0 b .1)
-        (omega (arith, key-price M π w (listed .0), cost-chain c h, ap (λ (k : ℕ). M * k) e))
-        (λ (q : wordOf c ≡ w). d (sym (chain-word-chain c (h .chained)) ∙ ap chainOf q)))
-
-    is-best : length (chainOf w) ≤ lim .K → IsBest n lim (price π) (chainOf w)
-    unfolding Better
-    is-best k =
+    up-to : (b : Bool) → leb (length (chainOf w)) (lim .K) ≡ b → Answers n lim length (price π) (cond b (some (chainOf w)) none)
+    up-to true e =
+        let (good, chain) = listed-chain n w (first-member ends cost r) in
         record {
-          chain = chain-of;
-          within = within-word M π lim w (listed .0) .1 (k, r .passes);
-          best = λ c h b d. go c h b d (decLt (price π (chainOf w)) (price π c)) (no-better c h b);
+          chain = chain;
+          within = within-word lim w good .1 (leb-true (length (chainOf w)) (lim .K) e, r .passes);
+          first = ahead;
         }
-      where
-        go :
-            (c : List Part)
-            → ChainOf n c
-            → Within lim c
-            → c ≢ chainOf w
-            → Dec (price π (chainOf w) < price π c)
-            → (length (chainOf w) < length c) ⊎ ((length (chainOf w) ≡ length c) × (price π (chainOf w) ≤ price π c))
-            → Better n (price π) (chainOf w) c
-        go c h b d p (inl l) = inl l
-        go c h b d (yes p) (inr e) = inr (e .0, inl p)
-        go c h b d (no p) (inr e) = inr (e .0, inr (omega arith, later c h b d (e .0) (omega arith)))
+    up-to false e = λ c h b. omega (arith, leb-false, no-fewer c h b, fits c h .0 b .0)
 
-  told : Answers n lim (price π) (leastKeyed M n lim π)
+  told : Answers n lim length (price π) (leastKeyed M n lim π)
   unfolding leastKeyed upTo listOf
   told = go (bestAt (costsOf M π) (lim .A) (lim .B) true origin n) (best-found (costsOf M π) (lim .A) (lim .B) true origin n)
     where
-      parts :
-          (w : Word)
-          → FirstLeast ends cost (wordsAt true n) w
-          → (b : Bool)
-          → leb (length (chainOf w)) (lim .K) ≡ b
-          → Answers n lim (price π) (cond b (some (chainOf w)) none)
-      parts w r true e = is-best w r (leb-true (length (chainOf w)) (lim .K) e)
-      parts w r false e =
-          λ c h b.
-          let k = fits c h .0 b .0 in
-          ⊎-elim
-          (λ (l : length (chainOf w) < length c). omega (arith, leb-false))
-          (λ (l : (length (chainOf w) ≡ length c) × (price π (chainOf w) ≤ price π c)). omega (arith, leb-false))
-          (no-better w r c h b)
-
-      go : (o : Option Word) → Found ends cost (wordsAt true n) o → Answers n lim (price π) (upTo (lim .K) o)
+      go : (o : Option Word) → Found ends cost (wordsAt true n) o → Answers n lim length (price π) (upTo (lim .K) o)
       go none f = λ c h b. f (wordOf c) (chain-listed n c h) (fits c h .0 b .1)
-      go (some w) r = parts w r (leb (length (chainOf w)) (lim .K)) refl
+      go (some w) r = up-to w r (leb (length (chainOf w)) (lim .K)) refl
 
   -- The chain of least key is the best chain; there is none where no chain is within the limits.
   pub keyed-is-best : leastKeyed M n lim π ≡ bestChain n lim (price π)
-  keyed-is-best = go (leastKeyed M n lim π) told
-    where
-      go : (o : Option (List Part)) → Answers n lim (price π) o → o ≡ bestChain n lim (price π)
-      go none f = sym (best-none n lim (price π) .1 f)
-      go (some c) b = sym (best-chain n lim (price π) c .1 b)
+  keyed-is-best = is-first n lim length (price π) (leastKeyed M n lim π) told
+
+-- ---- the cheapest chain
+
+-- The costs of letters are any whose key is 128 times the price and the parts: no chain of a number below 2^64 has so many parts.
+module _
+    (n : ℕ) (lim : Limits) (π : Prices) (κ : Costs) (fits : n < 2 ^ 64)
+    (keyed : (w : Word) → T (reads true w) → key κ w ≡ priceWeight * price π (chainOf w) + length (chainOf w))
+  where
+    -- What the cheapest word is chosen by: a word that ends in the grid and has few parts, of least key.
+    abbrev passes : Word → Bool
+    passes w = limitedBy (lim .A) (lim .B) .passes (origin, lim .K) w
+
+    abbrev pub cheapest : Option Word
+    cheapest = bestOn (limitedBy (lim .A) (lim .B)) κ (origin, lim .K) true n
+
+    -- It passes exactly if its chain is within the limits.
+    pub passes-within : (w : Word) → T (reads true w) → Within lim (chainOf w) ↔ T (passes w)
+    passes-within w h =
+        let grid = inGrid (lim .A) (lim .B) origin w in
+        let few = leb (parts w) (lim .K) in (
+          λ i.
+              let b = within-word lim w h .0 i in
+              yes-and grid few (b .1) (le→leb (parts w) (lim .K) (omega (arith, parts-chain w h))),
+          λ i.
+              let b = and-yes grid few i in
+              within-word lim w h .1 (omega (arith, parts-chain w h, leb→le (parts w) (lim .K) (b .1)), b .0),
+        )
+
+    within-passes : (c : List Part) → ChainOf n c → Within lim c → T (passes (wordOf c))
+    within-passes c h b = passes-within (wordOf c) (word-reads c) .0 (rw (chain-word-chain c (h .chained)) b)
+
+    cheap-told : Answers n lim (price π) length (Option·map chainOf (cheapest))
+    unfolding listOf
+    cheap-told =
+        go cheapest
+        (best-on-found (limited-carried (lim .A) (lim .B)) κ (origin, lim .K) true n)
+      where
+        few : (c : List Part) → ChainOf n c → length c < priceWeight
+        few c h = omega (arith, parts-bound n 64 c h fits)
+
+        go : (o : Option Word) → Found passes (key κ) (wordsAt true n) o → Answers n lim (price π) length (Option·map chainOf o)
+        go none f = λ c h b. f (wordOf c) (chain-listed n c h) (within-passes c h b)
+        go (some w) r =
+            let (good, chain) = listed-chain n w (first-member passes (key κ) r) in
+            record {
+              chain = chain;
+              within = passes-within w good .1 (r .passes);
+              first = λ c h b d.
+                  first-ahead priceWeight n (price π) length passes (key κ) keyed few w r c h (within-passes c h b) d;
+            }
+
+    -- The chain of the cheapest word is the cheapest chain; there is none where no chain is within the limits.
+    pub keyed-is-cheapest : Option·map chainOf (cheapest) ≡ cheapestChain n lim (price π)
+    keyed-is-cheapest = is-first n lim (price π) length (Option·map chainOf (cheapest)) cheap-told

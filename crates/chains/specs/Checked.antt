@@ -16,7 +16,7 @@ use lib.ListN.{length}
 use Rattle.chains.specs.Chains.{Part, ChainOf}
 use Rattle.chains.specs.Words.{Word, right, up, wordOf, chainFrom, chainOf}
 use Rattle.chains.specs.Listing.{byThird, atRest, wordsIn, wordsAt, listOf, count, position}
-use Rattle.chains.specs.Best.{Prices, price, Limits, Within, Better, IsBest, isWithin, bestChain}
+use Rattle.chains.specs.Best.{Prices, price, Limits, Within, Ahead, IsBest, isWithin, bestChain}
 use Rattle.chains.specs.BestLaws.{within-tested, Answers, answers}
 use Rattle.chains.specs.RoundTrip.{chain-word-chain}
 use Rattle.chains.specs.Listed.{list-of-chains, chain-listed}
@@ -122,8 +122,8 @@ best-has :
     → length c ≡ k
     → ((c′ : List Part) → ChainOf n c′ → k ≤ length c′)
     → (c′ : List Part) × IsBest n free (price π) c′ × (length c′ ≡ k)
-unfolding Better
-best-has n k π c h w e fewest = go (bestChain n free (price π)) (answers n free (price π))
+unfolding Ahead
+best-has n k π c h w e fewest = go (bestChain n free (price π)) (answers n free length (price π))
   where
     parts : (c′ : List Part) → IsBest n free (price π) c′ → Dec (length c′ ≡ k) → length c′ ≡ k
     parts c′ b (yes d) = d
@@ -132,9 +132,9 @@ best-has n k π c h w e fewest = go (bestChain n free (price π)) (answers n fre
         (λ (l : length c′ < length c). absurd (omega (arith, fewest c′ (b .chain))))
         (λ (l : (length c′ ≡ length c) × ((price π c′ < price π c) ⊎ ((price π c′ ≡ price π c) × (position n c′ < position n c)))).
         l .0 ∙ e)
-        (b .best c h w (λ (q : c ≡ c′). d (sym (ap length q) ∙ e)))
+        (b .first c h w (λ (q : c ≡ c′). d (sym (ap length q) ∙ e)))
 
-    go : (o : Option (List Part)) → Answers n free (price π) o → (c′ : List Part) × IsBest n free (price π) c′ × (length c′ ≡ k)
+    go : (o : Option (List Part)) → Answers n free length (price π) o → (c′ : List Part) × IsBest n free (price π) c′ × (length c′ ≡ k)
     go none f = absurd (f c h w)
     go (some c′) b = (c′, b, parts c′ b (ℕ-discrete (length c′) k))
 

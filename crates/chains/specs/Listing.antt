@@ -1,7 +1,7 @@
 -- The list of n, its count, and positions in it: document 01, 'Path words' and 'Services and memory'.
 -- Definitions only. Members says what the list of n holds and that it ascends, PositionsOfChains that a position leads to its chain
 -- and back.
-use mathlib.Core.Bool.{Bool, true, false, _&&_, _||_}
+use mathlib.Core.Bool.{Bool, true, false, cond, _&&_, _||_}
 use mathlib.Core.List.{List, [], _∷_, _++_, map}
 use Prim.Native.Nat.{ℕ, zero, suc, _+_, _/_, _%_}
 use lib.Dec.{ltb, eqb}
@@ -58,6 +58,11 @@ listOf n = wordsAt true n
 -- The count of n: how many chains it has (003's W).
 unfoldable pub count : ℕ → ℕ
 count n = length (listOf n)
+
+-- The words of a list that pass a test.
+unfoldable pub keep : (Word → Bool) → List Word → List Word
+keep t [] = []
+keep t (w ∷ ws) = cond (t w) (w ∷ keep t ws) (keep t ws)
 
 -- ---- positions
 

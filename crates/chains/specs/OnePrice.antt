@@ -13,8 +13,8 @@ use native.Mathlib.Omega.{arith}
 use lib.Dec.{ltb}
 use lib.ListN.{length}
 use Rattle.chains.specs.Chains.{Part, Chained, ChainOf}
-use Rattle.chains.specs.Best.{Prices, price, Limits, Better, IsBest, bestChain}
-use Rattle.chains.specs.BestLaws.{Answers, answers, best-chain, best-none}
+use Rattle.chains.specs.Best.{Prices, price, Limits, Ahead, IsBest, bestChain}
+use Rattle.chains.specs.BestLaws.{Answers, answers, is-first}
 use Rattle.chains.specs.PriceLaws.{byNeighbours, price-by-neighbours}
 
 -- Document 01's price of a chain: d × a + t × b + s × (k − 1), where 2^a × 3^b is the largest part and k the number of parts. The
@@ -46,12 +46,12 @@ one-price d t s (p ∷ c) h = omega (arith, price-by-neighbours (sForBoth d t s)
 -- A chain that is best by the one is best by the other.
 same-best : (n : ℕ) (lim : Limits) (f g : List Part → ℕ) → ((c : List Part) → ChainOf n c → f c ≡ g c)
     → (c : List Part) → IsBest n lim f c → IsBest n lim g c
-unfolding Better
+unfolding Ahead
 same-best n lim f g same c b =
     record {
       chain = b .chain;
       within = b .within;
-      best = λ c′ h w d. rw (← same c (b .chain), ← same c′ h) (b .best c′ h w d);
+      first = λ c′ h w d. rw (← same c (b .chain), ← same c′ h) (b .first c′ h w d);
     }
 
 -- ---- the best chain
@@ -68,8 +68,8 @@ module _ (n : ℕ) (lim : Limits) (d t s : ℕ) where
       (there c, same-best n lim (earlierPrice d t s) (price (sForBoth d t s)) (λ c′ h. sym (same c′ h)) c)
 
   pub one-price-chosen : bestChain n lim (price (sForBoth d t s)) ≡ bestChain n lim (earlierPrice d t s)
-  one-price-chosen = go (bestChain n lim (price (sForBoth d t s))) (answers n lim (price (sForBoth d t s)))
+  one-price-chosen = go (bestChain n lim (price (sForBoth d t s))) (answers n lim length (price (sForBoth d t s)))
     where
-      go : (o : Option (List Part)) → Answers n lim (price (sForBoth d t s)) o → o ≡ bestChain n lim (earlierPrice d t s)
-      go none f = sym (best-none n lim (earlierPrice d t s) .1 f)
-      go (some c) b = sym (best-chain n lim (earlierPrice d t s) c .1 (there c b))
+      go : (o : Option (List Part)) → Answers n lim length (price (sForBoth d t s)) o → o ≡ bestChain n lim (earlierPrice d t s)
+      go none f = is-first n lim length (earlierPrice d t s) none f
+      go (some c) b = is-first n lim length (earlierPrice d t s) (some c) (there c b)

@@ -9,19 +9,12 @@
 // A cell holds the number of the free reader, at the start and after b has risen. That of the other reader is carried along a row,
 // and is stored nowhere.
 ghost use mathlib.Core.Path.{_≡_};
-ghost use Prim.Native.Nat.{suc, _+_, _*_, _^_, _≤_, _<_};
+ghost use Prim.Native.Nat.{suc, _≤_, _<_};
 ghost use lib.ListN.{length};
 ghost use Rattle.chains.specs.Listing.{count};
 ghost use Rattle.lent.specs.Lent.{scratchSize};
 ghost use Rattle.grid.specs.Grid.{RowAsked, RowFilled, rowPlace};
 ghost use Rattle.counting.specs.Table.{countCell, LiveAsked, CountRows, CountsFilled};
-
-// How many columns of a row are live, where m is the rest of its first column: as many as m has bits.
-fn live_columns(m: u64) -> usize
-    ensures { λ r. ⌜ (r ≤ 64) × (m < 2 ^ r) × (2 ^ r ≤ 2 * m + 1) ⌝ }
-{
-    64 - u64::leading_zeros(m) as usize
-}
 
 // The live columns of row b below `top`, from there down. The number above counts for both readers where the remainder by three of
 // the column's rest is 1, and where it is 0 for the free reader alone.
@@ -50,7 +43,7 @@ fn fill_row(part: &mut [u64], up: usize, b: usize, m: u64, q: u64)
     requires { ⌜ RowAsked countCell b m q up (now part) ⌝ }
     ensures { λ _. ⌜ RowFilled countCell b m 0 (now (part .entry)) (now (part .exit)) ⌝ }
 {
-    let live = live_columns(m);
+    let live = grid::live_columns(m);
     if live == 0 {
         return;
     }

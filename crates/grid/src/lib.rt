@@ -1,6 +1,7 @@
-// A table filled row by row in the scratch: the rests of its rows, and the remainders by three in a row. Its theory stands in
+// A table filled row by row: the rests of its rows, the live columns of a row, and the remainders by three in a row. Its theory is in
 // specs/.
 ghost use mathlib.Core.Path.{_≡_};
+ghost use Prim.Native.Nat.{_+_, _*_, _^_, _≤_, _<_};
 ghost use lib.ListN.{length};
 ghost use Rattle.grid.specs.Masks.{onesOf, zerosOf, twosOf};
 ghost use Rattle.grid.specs.Grid.{restsOf, liveRows};
@@ -23,6 +24,13 @@ pub fn put_rests(m: u64, part: &mut [u64]) -> usize
         i += 1;
     }
     i
+}
+
+// How many columns of a row are live, where m is the rest of its first column: as many as m has bits.
+pub fn live_columns(m: u64) -> usize
+    ensures { λ r. ⌜ (r ≤ 64) × (m < 2 ^ r) × (2 ^ r ≤ 2 * m + 1) ⌝ }
+{
+    64 - u64::leading_zeros(m) as usize
 }
 
 // The mask of a row whose bit a is 1 where the rest of column a leaves the remainder 1 by three. m and q are the rests of the first

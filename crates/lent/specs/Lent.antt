@@ -1,7 +1,8 @@
 -- What a service asks to be lent and what it leaves there: document 01, 'Services and memory'. The scratch, the places and the
 -- reply follow one rule: what the service gives, then zeros up to the size that it asks for, and everything later as it was.
 --
--- In this order: the rule; the size of the scratch; whether too little is lent; the scratch at exit.
+-- In this order: the rule; the size of the scratch; whether too little is lent; the memory at exit. The last two are defined for any size;
+-- most services ask for a scratch, those of document 02, T-10, for more.
 -- Definitions only. The laws are in LentLaws.
 use mathlib.Core.Path.{_≡_}
 use mathlib.Core.Bool.{Bool, cond, _||_}
@@ -31,22 +32,38 @@ pub record OnlyFirst (size : ℕ) (entry exit : List ℕ) : Type 0 where
 abbrev pub scratchSize : ℕ
 scratchSize = 512
 
+-- The memory has fewer than `size` numbers.
+unfoldable pub fewer : ℕ → List ℕ → Bool
+fewer size memory = ltb (length memory) size
+
 -- The scratch is too small.
-unfoldable pub littleScratch : List ℕ → Bool
-littleScratch scratch = ltb (length scratch) scratchSize
+abbrev pub littleScratch : List ℕ → Bool
+littleScratch scratch = fewer scratchSize scratch
 
--- Too little is lent to a service that gives up to `room` part numbers, letters or digits: the scratch is too small, or there are
--- fewer places than that.
-unfoldable pub tooLittle : ℕ → List ℕ → List ℕ → Bool
-tooLittle room scratch places = littleScratch scratch || ltb (length places) room
+-- Too little is lent to a service that asks for `size` numbers and gives up to `room` part numbers, letters or digits: the memory is too
+-- small, or there are fewer places than that.
+unfoldable pub tooFew : ℕ → ℕ → List ℕ → List ℕ → Bool
+tooFew size room memory places = fewer size memory || ltb (length places) room
 
--- Enough is lent to such a service.
-pub record Enough (size : ℕ) (scratch places : List ℕ) : Type 0 where
-  pub numbers : scratchSize ≤ length scratch
-  pub room : size ≤ length places
+-- The same of a service that asks for a scratch.
+abbrev pub tooLittle : ℕ → List ℕ → List ℕ → Bool
+tooLittle room scratch places = tooFew scratchSize room scratch places
 
--- ---- the scratch at exit
+-- Enough is lent: `size` numbers and `most` places;
+pub record Lends (size most : ℕ) (memory places : List ℕ) : Type 0 where
+  pub numbers : size ≤ length memory
+  pub room : most ≤ length places
 
--- Untouched where too little is lent, else its first numbers are zero and the rest is untouched.
-unfoldable pub scratchLeft : Bool → List ℕ → List ℕ
-scratchLeft little entry = cond little entry (filled scratchSize [] entry)
+-- the same where a scratch is asked for.
+abbrev pub Enough : ℕ → List ℕ → List ℕ → Type 0
+Enough room scratch places = Lends scratchSize room scratch places
+
+-- ---- the memory at exit
+
+-- Untouched where too little is lent, else its first numbers are zero and the rest is untouched;
+unfoldable pub memoryLeft : ℕ → Bool → List ℕ → List ℕ
+memoryLeft size little entry = cond little entry (filled size [] entry)
+
+-- the same of a scratch.
+abbrev pub scratchLeft : Bool → List ℕ → List ℕ
+scratchLeft little entry = memoryLeft scratchSize little entry

@@ -1,7 +1,7 @@
 -- The laws of lent memory; the definitions are in Lent.
 --
 -- In this order: the length is kept; a part of that size that was zeroed; what is given, put over the zeros; memory of which only the
--- first may have changed; whether too little is lent, and the scratch at exit, in each case.
+-- first may have changed; whether too little is lent, and the memory at exit, in each case.
 use mathlib.Core.Path.{_≡_, refl, sym, ap, _∙_}
 use mathlib.Core.Bool.{Bool, true, false, _||_, or-true, true≢false}
 use mathlib.Core.List.{List, [], _++_, append-assoc}
@@ -11,7 +11,7 @@ use lib.ListN.{length, getD, take, drop, replicate, length-append, length-drop, 
 use lib.Seq.{length-take-le, take-append-seam, drop-at}
 use borrow.Author.Tests.{le-ltb, lt-ltb}
 use borrow.Rule.Slice.PartMut.{midOf, putMid}
-use Rattle.lent.specs.Lent.{zeros, filled, OnlyFirst, scratchSize, littleScratch, tooLittle, Enough, scratchLeft}
+use Rattle.lent.specs.Lent.{zeros, filled, OnlyFirst, fewer, tooFew, Lends, memoryLeft}
 
 -- ---- the rule
 
@@ -90,33 +90,34 @@ used-zeroed u = rw (u .later)
 
 -- ---- whether too little is lent
 
-pub scratch-little : (s : List ℕ) → length s < scratchSize → littleScratch s ≡ true
-unfolding littleScratch
-scratch-little s h = lt-ltb (length s) scratchSize h
+module _ {size : ℕ} where
+  pub scratch-little : (s : List ℕ) → length s < size → fewer size s ≡ true
+  unfolding fewer
+  scratch-little s h = lt-ltb (length s) size h
 
-pub scratch-enough : (s : List ℕ) → scratchSize ≤ length s → littleScratch s ≡ false
-unfolding littleScratch
-scratch-enough s h = le-ltb (length s) scratchSize h
+  pub scratch-enough : (s : List ℕ) → size ≤ length s → fewer size s ≡ false
+  unfolding fewer
+  scratch-enough s h = le-ltb (length s) size h
 
-module _ (size : ℕ) (s p : List ℕ) where
-  pub little-scratch : length s < scratchSize → tooLittle size s p ≡ true
-  unfolding tooLittle
+pub little-places : (size room : ℕ) (s p : List ℕ) → length p < room → tooFew size room s p ≡ true
+unfolding tooFew
+little-places size room s p h = rw (lt-ltb (length p) room h, or-true)
+
+module _ {size : ℕ} (room : ℕ) (s p : List ℕ) where
+  pub little-scratch : length s < size → tooFew size room s p ≡ true
+  unfolding tooFew
   little-scratch h = rw (scratch-little s h)
 
-  pub little-places : length p < size → tooLittle size s p ≡ true
-  unfolding tooLittle
-  little-places h = rw (lt-ltb (length p) size h, or-true)
-
-  pub enough : Enough size s p → tooLittle size s p ≡ false
-  unfolding tooLittle
-  enough h = rw (scratch-enough s (h .numbers), le-ltb (length p) size (h .room))
+  pub enough : Lends size room s p → tooFew size room s p ≡ false
+  unfolding tooFew
+  enough h = rw (scratch-enough s (h .numbers), le-ltb (length p) room (h .room))
 
   -- The other way round.
-  pub not-little : tooLittle size s p ≡ false → Enough size s p
+  pub not-little : tooFew size room s p ≡ false → Lends size room s p
   not-little e =
       record {
-        numbers = not-below (λ (h : length s < scratchSize). true≢false (sym (little-scratch h) ∙ e));
-        room = not-below (λ (h : length p < size). true≢false (sym (little-places h) ∙ e));
+        numbers = not-below (λ (h : length s < size). true≢false (sym (little-scratch h) ∙ e));
+        room = not-below (λ (h : length p < room). true≢false (sym (little-places size room s p h) ∙ e));
       }
     where
       not-below : {i k : ℕ} → ¬ (i < k) → k ≤ i
@@ -127,27 +128,29 @@ pub neither : (a b : Bool) → (a || b) ≡ false → (a ≡ false) × (b ≡ fa
 neither true b e = absurd (true≢false e)
 neither false b e = (refl, e)
 
--- ---- the scratch at exit
+-- ---- the memory at exit
 
-pub left-untouched : (b : Bool) (s : List ℕ) → b ≡ true → scratchLeft b s ≡ s
-unfolding scratchLeft
-left-untouched b s e = rw e
+module _ (size : ℕ) where
+  pub left-untouched : (b : Bool) (s : List ℕ) → b ≡ true → memoryLeft size b s ≡ s
+  unfolding memoryLeft
+  left-untouched b s e = rw e
 
-pub left-zeroed : (b : Bool) (s : List ℕ) → b ≡ false → scratchLeft b s ≡ filled scratchSize [] s
-unfolding scratchLeft
-left-zeroed b s e = rw e
+  pub left-zeroed : (b : Bool) (s : List ℕ) → b ≡ false → memoryLeft size b s ≡ filled size [] s
+  unfolding memoryLeft
+  left-zeroed b s e = rw e
 
-pub enough-zeroed : (size : ℕ) (s p : List ℕ) → Enough size s p → scratchLeft (tooLittle size s p) s ≡ filled scratchSize [] s
-enough-zeroed size s p h = left-zeroed (tooLittle size s p) s (enough size s p h)
+module _ {size : ℕ} where
+  pub enough-zeroed : (room : ℕ) (s p : List ℕ) → Lends size room s p → memoryLeft size (tooFew size room s p) s ≡ filled size [] s
+  enough-zeroed room s p h = left-zeroed size (tooFew size room s p) s (enough room s p h)
 
--- The same of a service that is lent no places.
-pub served-zeroed : (s : List ℕ) → scratchSize ≤ length s → scratchLeft (littleScratch s) s ≡ filled scratchSize [] s
-served-zeroed s h = left-zeroed (littleScratch s) s (scratch-enough s h)
+  -- The same of a service that is lent no places.
+  pub served-zeroed : (s : List ℕ) → size ≤ length s → memoryLeft size (fewer size s) s ≡ filled size [] s
+  served-zeroed s h = left-zeroed size (fewer size s) s (scratch-enough s h)
 
-pub refused-untouched : (s : List ℕ) → length s < scratchSize → scratchLeft (littleScratch s) s ≡ s
-refused-untouched s h = left-untouched (littleScratch s) s (scratch-little s h)
+  pub refused-untouched : (s : List ℕ) → length s < size → memoryLeft size (fewer size s) s ≡ s
+  refused-untouched s h = left-untouched size (fewer size s) s (scratch-little s h)
 
--- A scratch of which only the first numbers were used, zeroed in the end.
-pub used-left : {entry l : List ℕ} → scratchSize ≤ length entry → OnlyFirst scratchSize entry l
-    → scratchLeft (littleScratch l) l ≡ filled scratchSize [] entry
-used-left {entry} {l} h u = served-zeroed l (omega (arith, u .same)) ∙ used-zeroed u
+  -- Memory of which only the first numbers were used, zeroed in the end.
+  pub used-left : {entry l : List ℕ} → size ≤ length entry → OnlyFirst size entry l
+      → memoryLeft size (fewer size l) l ≡ filled size [] entry
+  used-left {entry} {l} h u = served-zeroed l (omega (arith, u .same)) ∙ used-zeroed u

@@ -1,7 +1,7 @@
 // Zeroing lent memory, at each width that the services are lent: the scratch, the places for part numbers, letters and digits.
 ghost use mathlib.Core.Path.{_≡_};
 ghost use lib.ListN.{length};
-ghost use Rattle.lent.specs.Lent.{zeros, littleScratch, scratchLeft};
+ghost use Rattle.lent.specs.Lent.{zeros, fewer, memoryLeft, littleScratch, scratchLeft};
 
 // How many numbers the scratch of a service must have (`scratchSize` in specs/Lent.antt).
 pub const SCRATCH: usize = 512;
@@ -17,14 +17,21 @@ pub fn clear_u64(part: &mut [u64])
     }
 }
 
-// Zeroes the first `SCRATCH` numbers of a lent scratch. Where it has fewer, nothing is touched.
+// Zeroes the first `size` numbers of lent memory. Where it has fewer, nothing is touched.
+pub fn clear_first(memory: &mut [u64], size: usize)
+    ensures { λ _. ⌜ now (memory .exit) ≡ memoryLeft size (fewer size (now (memory .entry))) (now (memory .entry)) ⌝ }
+{
+    if memory.len() < size {
+        return;
+    }
+    clear_u64(&mut memory[0..size]);
+}
+
+// The same of a lent scratch, with its first `SCRATCH` numbers.
 pub fn clear_scratch(scratch: &mut [u64])
     ensures { λ _. ⌜ now (scratch .exit) ≡ scratchLeft (littleScratch (now (scratch .entry))) (now (scratch .entry)) ⌝ }
 {
-    if scratch.len() < SCRATCH {
-        return;
-    }
-    clear_u64(&mut scratch[0..SCRATCH]);
+    clear_first(scratch, SCRATCH);
 }
 
 // Zeroes all of a lent part of numbers of 16 bits.

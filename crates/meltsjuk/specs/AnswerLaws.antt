@@ -2,6 +2,9 @@
 -- never as a length. No refusal of a run, of a tree word, of a record or of a bench is 0. So `meltsjuk_run` answers 0 exactly where
 -- it has a residue, `meltsjuk_read_tree` exactly where it has a chain, `meltsjuk_write_tree` exactly where it has letters, and the
 -- functions for a bench exactly where they do what is asked.
+--
+-- Where two functions put the same kind of answer into numbers, the laws for their proofs stand here too: those of the counts, of a
+-- chain that is chosen, and of the bench.
 use mathlib.Core.Path.{_≡_, refl}
 use mathlib.Core.Logic.{_↔_, _⊎_, ⊎-elim}
 use mathlib.Core.Bool.{Bool, true, false, cond}
@@ -12,8 +15,13 @@ use lib.Dec.{eqb, ltb}
 use lib.ListN.{length}
 use Rattle.chains.specs.Chains.{Part}
 use Rattle.chains.specs.Words.{Word}
+use Rattle.chains.specs.Best.{Prices, price}
 use Rattle.lent.specs.Lent.{tooLittle}
-use Rattle.ranking.specs.Services.{Outcome, refused, gives, lent}
+use Rattle.ranking.specs.Services.{Outcome, refused, gives, lentOf}
+use Rattle.counting.specs.declared.Counted.{Counted}
+use Rattle.counting.specs.declared.Counted.the-variants as counted
+use Rattle.best.specs.Chosen.{chosenOf}
+use Rattle.best.specs.declared.Chosen.the-variants as chosen
 use Rattle.trees.specs.Answers.{ofTree, TreeWord, noTree, treeWord, recordTree, lentTree}
 use Rattle.trees.specs.AnswerLaws.{tree-refusals, record-tree-refusals}
 use Rattle.frames.specs.ReplyLaws.{reply-frame}
@@ -34,7 +42,8 @@ use Rattle.bench.specs.declared.Walked.{Walked}
 use Rattle.bench.specs.declared.Walked.the-variants as walked
 use Rattle.bench.specs.declared.Told.{Told}
 use Rattle.bench.specs.declared.Told.the-variants as told
-use Rattle.meltsjuk.specs.Answers.{digitsOrRefusal, outcomeStatus, treeChainAsked, treeAsked, treeStatus, runStatus}
+use Rattle.meltsjuk.specs.Answers.{digitsOrRefusal, countStatus, countOr, outcomeStatus, partsOr, priceOr}
+use Rattle.meltsjuk.specs.Answers.{treeChainAsked, treeAsked, treeStatus, runStatus}
 use Rattle.meltsjuk.specs.Answers.{benchStatus, walkStatus, tellStatus}
 
 pub one-is-refusal : (little : Bool) (line : List ℕ) → digitsOrRefusal little line ≡ 1 → little ≡ true
@@ -75,7 +84,7 @@ chain-zero (gives n c) h = (λ _. (n, c, refl), λ _. refl)
 
 pub zero-is-chain : (s p : List ℕ) (w : Word)
     → (outcomeStatus (treeChainAsked s p w) ≡ 0) ↔ ((n : ℕ) × (c : List Part) × (treeChainAsked s p w ≡ gives n c))
-unfolding lent
+unfolding lentOf
 zero-is-chain s p w = chain-zero (treeChainAsked s p w) (some (tooLittle 64 s p))
   where
     some : (b : Bool) (r : ℕ) → cond b (refused 1) (ofTree w) ≡ refused r → ¬ (r ≡ 0)
@@ -100,6 +109,38 @@ zero-is-letters p l = letters-zero (treeAsked p l) (some (ltb (length p) 160))
         ⊎-elim (λ (g : r ≡ 8). omega arith)
         (⊎-elim (λ (g : r ≡ 9). omega arith) (⊎-elim (λ (g : r ≡ 10). omega arith) (λ (g : r ≡ 15). omega arith)))
         (record-tree-refusals l .no-other r e)
+
+-- ---- the counts
+
+-- The answer of a count is a, and x stood where the count is asked for.
+module _ (a : Counted) (x : ℕ) where
+  pub count-is-told : (m : ℕ) → a ≡ counted.Count m → (0 ≡ countStatus a) × (m ≡ countOr a x)
+  unfolding countStatus countOr
+  count-is-told m e = rw e (refl, refl)
+
+  pub no-count-is-told : (r : ℕ) → a ≡ counted.Refused r → (r ≡ countStatus a) × (x ≡ countOr a x)
+  unfolding countStatus countOr
+  no-count-is-told r e = rw e (refl, refl)
+
+-- ---- a chain that is chosen: the best or the cheapest
+
+-- x and y stood where the number of parts and the price are asked for.
+module _ (π : Prices) (x y : ℕ) where
+  pub chosen-is-told : (o : Outcome) (k cost : ℕ) → chosen.Chain k cost ≡ chosenOf (price π) o
+      → (0 ≡ outcomeStatus o) × (k ≡ partsOr o x) × (cost ≡ priceOr π o y)
+  unfolding chosenOf outcomeStatus partsOr priceOr
+  chosen-is-told (refused r) k cost e =
+      let f : _≡_ {A = ℕ} 0 1 = cc in
+      absurd (omega arith)
+  chosen-is-told (gives n c) k cost e = (refl, cc, cc)
+
+  pub none-chosen-is-told : (o : Outcome) (r : ℕ) → chosen.Refused r ≡ chosenOf (price π) o
+      → (r ≡ outcomeStatus o) × (x ≡ partsOr o x) × (y ≡ priceOr π o y)
+  unfolding chosenOf outcomeStatus partsOr priceOr
+  none-chosen-is-told (refused q) r e = (cc, refl, refl)
+  none-chosen-is-told (gives n c) r e =
+      let f : _≡_ {A = ℕ} 0 1 = cc in
+      absurd (omega arith)
 
 -- ---- the bench
 

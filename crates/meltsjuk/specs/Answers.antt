@@ -2,8 +2,8 @@
 -- A refusal leaves those as they were. Document 01, 'What a refused line or call gets', and document 02 have the refusals' numbers;
 -- of all but the reply 0 says that the call was served.
 --
--- In this order: the reply to a line, the count, a chain that is found, the best chain, placing, tree words, the run of a chain, the
--- bench.
+-- In this order: the reply to a line, the counts, a chain that is found, the best chain and the cheapest, placing, tree words, the run
+-- of a chain, the bench.
 -- Definitions only.
 use mathlib.Core.Bool.{Bool, true, false}
 use mathlib.Core.List.{List}
@@ -12,13 +12,14 @@ use lib.ListN.{length}
 use Rattle.chains.specs.Words.{Word}
 use Rattle.chains.specs.Listing.{position}
 use Rattle.chains.specs.Best.{Prices, Limits, price}
-use Rattle.ranking.specs.Services.{Outcome, refused, gives, lent, lentScratch, ofRecord}
+use Rattle.ranking.specs.Services.{Outcome, refused, gives, lent, lentOf, lentScratch, ofRecord}
 use Rattle.counting.specs.declared.Counted.{Counted}
 use Rattle.counting.specs.declared.Counted.the-variants.{Count, Refused}
 use Rattle.trees.specs.Answers.{ofTree, TreeWord, noTree, treeWord, recordTree, lentTree}
 use Rattle.running.specs.declared.Ran.{Ran}
 use Rattle.running.specs.declared.Ran.the-variants as ran
 use Rattle.best.specs.Chosen.{bestOutcome}
+use Rattle.limited.specs.Services.{tableSize, cheapestOutcome}
 use Rattle.bench.specs.Benches as bench
 use Rattle.bench.specs.declared.Walked.{Walked}
 use Rattle.bench.specs.declared.Walked.the-variants as walked
@@ -34,7 +35,7 @@ unfoldable pub digitsOrRefusal : Bool → List ℕ → ℕ
 digitsOrRefusal true line = 1
 digitsOrRefusal false line = length (replyOf line)
 
--- ---- the count
+-- ---- the counts
 
 unfoldable pub countStatus : Counted → ℕ
 countStatus (Count m) = 0
@@ -64,7 +65,7 @@ unfoldable pub partsOr : Outcome → ℕ → ℕ
 partsOr (refused r) x = x
 partsOr (gives n c) x = length c
 
--- ---- the best chain
+-- ---- the best chain and the cheapest
 
 -- What is asked with: C hands the limits and the prices over as numbers.
 abbrev pub limitsOf : ℕ → ℕ → ℕ → Limits
@@ -77,7 +78,11 @@ pricesOf d t s2 s3 = record { d = d; t = t; s2 = s2; s3 = s3 }
 abbrev pub bestAsked : List ℕ → List ℕ → ℕ → Limits → Prices → Outcome
 bestAsked scratch places n lim π = lent scratch places (bestOutcome n lim (price π))
 
--- Its price, or x where it is refused.
+-- The same of the cheapest chain, for which more is lent.
+abbrev pub cheapestAsked : List ℕ → List ℕ → ℕ → Limits → Prices → Outcome
+cheapestAsked scratch places n lim π = lentOf tableSize scratch places (cheapestOutcome n lim (price π))
+
+-- The price of such a chain, or x where it is refused.
 unfoldable pub priceOr : Prices → Outcome → ℕ → ℕ
 priceOr π (refused r) x = x
 priceOr π (gives n c) x = price π c

@@ -15,10 +15,11 @@ use ranking::Position;
 use running::Ran;
 use words::Written;
 ghost use mathlib.Core.Path.{_≡_};
-ghost use Rattle.lent.specs.Lent.{tooLittle, scratchLeft, littleScratch};
+ghost use Rattle.lent.specs.Lent.{tooLittle, scratchLeft, littleScratch, fewer, tooFew, memoryLeft};
 ghost use Rattle.ranking.specs.Services.{placesLeft};
 ghost use Rattle.best.specs.Chosen as best;
 ghost use Rattle.counting.specs.TableCount.{countedOf};
+ghost use Rattle.limited.specs.Services.{tableSize, countedUpTo};
 ghost use Rattle.frames.specs.Replies.{outLeft};
 ghost use Rattle.trees.specs.Answers.{treeLeft};
 ghost use Rattle.running.specs.Ran.{ranOf};
@@ -26,7 +27,7 @@ ghost use Rattle.bench.specs.Benches.{openOutcome, moveOutcome, saveOutcome, ba
 ghost use Rattle.bench.specs.Benches.{walkedOf, walkLeft, toldOf, placesLeft as toldLeft};
 ghost use Rattle.meltsjuk.specs.Answers.{digitsOrRefusal, countStatus, countOr};
 ghost use Rattle.meltsjuk.specs.Answers.{outcomeStatus, numberOr, positionOr, partsOr};
-ghost use Rattle.meltsjuk.specs.Answers.{limitsOf, pricesOf, bestAsked, priceOr, placeAsked};
+ghost use Rattle.meltsjuk.specs.Answers.{limitsOf, pricesOf, bestAsked, priceOr, cheapestAsked, placeAsked};
 ghost use Rattle.meltsjuk.specs.Answers.{treeChainAsked, treeAsked, treeStatus, lettersOr};
 ghost use Rattle.meltsjuk.specs.Answers.{runStatus, residueOr};
 ghost use Rattle.meltsjuk.specs.Answers.{benchStatus, walkStatus, movesOr, walkedPartsOr};
@@ -61,6 +62,29 @@ pub extern "C" fn meltsjuk_count(n: u64, scratch: &mut [u64], count: &mut u64) -
             0
         }
         Counted::Refused(number) => number,
+    }
+}
+
+// How many chains of n have at most `parts` parts, as `limited::count_up_to` counts them. Answers 0 with the count put in `count`, or
+// 1, and `count` is as it was.
+#[no_mangle]
+pub extern "C" fn meltsjuk_count_up_to(
+    n: u64,
+    parts: u8,
+    scratch: &mut [u64],
+    count: &mut u64,
+) -> u8
+    ensures answer { λ r. ⌜ r ≡ countStatus (countedUpTo parts n (now (scratch .entry))) ⌝ }
+    ensures count { λ _. ⌜ now (count .exit) ≡ countOr (countedUpTo parts n (now (scratch .entry))) (now (count .entry)) ⌝ }
+    ensures scratch { λ _. ⌜ now (scratch .exit)
+        ≡ memoryLeft tableSize (fewer tableSize (now (scratch .entry))) (now (scratch .entry)) ⌝ }
+{
+    match limited::count_up_to(n, parts, scratch) {
+        Counted::Count(counted) => {
+            *count = counted;
+            0
+        }
+        Counted::Refused(refusal) => refusal,
     }
 }
 
@@ -182,6 +206,56 @@ pub extern "C" fn meltsjuk_choose(
     let limits = limits_by(parts_limit, a_limit, b_limit);
     let prices = prices_by(d, t, s2, s3);
     match best::choose_chain(n, limits, prices, scratch, places) {
+        Chosen::Chain {
+            k: parts,
+            price: cost,
+        } => {
+            *k = parts;
+            *price = cost;
+            0
+        }
+        Chosen::Refused(number) => number,
+    }
+}
+
+// The cheapest chain of n within the limits and by the prices, as `limited::cheapest_chain` finds it, its part numbers in the places.
+// Answers 0 with the number of parts and the price put in `k` and `price`, or 1 or 5, and the two are as they were.
+#[no_mangle]
+pub extern "C" fn meltsjuk_cheapest(
+    n: u64,
+    parts_limit: u8,
+    a_limit: u8,
+    b_limit: u8,
+    d: u16,
+    t: u16,
+    s2: u16,
+    s3: u16,
+    scratch: &mut [u64],
+    places: &mut [u16],
+    k: &mut u64,
+    price: &mut u64,
+) -> u8
+    ensures answer { λ r. ⌜ r
+        ≡ outcomeStatus
+        (cheapestAsked (now (scratch .entry)) (now (places .entry)) n (limitsOf «parts_limit» «a_limit» «b_limit») (pricesOf d t s2 s3)) ⌝ }
+    ensures k { λ _. ⌜ now (k .exit)
+        ≡ partsOr
+        (cheapestAsked (now (scratch .entry)) (now (places .entry)) n (limitsOf «parts_limit» «a_limit» «b_limit») (pricesOf d t s2 s3))
+        (now (k .entry)) ⌝ }
+    ensures price { λ _. ⌜ now (price .exit)
+        ≡ priceOr (pricesOf d t s2 s3)
+        (cheapestAsked (now (scratch .entry)) (now (places .entry)) n (limitsOf «parts_limit» «a_limit» «b_limit») (pricesOf d t s2 s3))
+        (now (price .entry)) ⌝ }
+    ensures places { λ _. ⌜ now (places .exit)
+        ≡ placesLeft
+        (cheapestAsked (now (scratch .entry)) (now (places .entry)) n (limitsOf «parts_limit» «a_limit» «b_limit») (pricesOf d t s2 s3))
+        (now (places .entry)) ⌝ }
+    ensures scratch { λ _. ⌜ now (scratch .exit)
+        ≡ memoryLeft tableSize (tooFew tableSize 64 (now (scratch .entry)) (now (places .entry))) (now (scratch .entry)) ⌝ }
+{
+    let limits = limits_by(parts_limit, a_limit, b_limit);
+    let prices = prices_by(d, t, s2, s3);
+    match limited::cheapest_chain(n, limits, prices, scratch, places) {
         Chosen::Chain {
             k: parts,
             price: cost,

@@ -11,7 +11,7 @@ use native.Mathlib.Omega.{arith}
 use lib.Ieee.Bits.{is-true}
 use lib.ListN.{length}
 use borrow.Author.Tests.{le-ltb, lt-ltb}
-use Rattle.lent.specs.Lent.{filled, scratchSize, littleScratch, tooLittle, scratchLeft}
+use Rattle.lent.specs.Lent.{filled, scratchSize, littleScratch, tooLittle, scratchLeft, memoryLeft}
 use Rattle.lent.specs.LentLaws.{scratch-little, scratch-enough, enough}
 use Rattle.chains.specs.Chains.{total}
 use Rattle.chains.specs.Words.{Word, wordOf, chainOf, reads}
@@ -33,7 +33,7 @@ use Rattle.counting.specs.RankedLaws.{listed-past, listed-there}
 use Rattle.counting.specs.declared.Counted.{Counted}
 use Rattle.counting.specs.declared.Counted.the-variants as counted
 use Rattle.counting.specs.declared.Listed.the-variants as listed
-use Rattle.ranking.specs.Services.{Outcome, refused, gives, lentScratch, lent}
+use Rattle.ranking.specs.Services.{Outcome, refused, gives, lentScratch, lent, lentOf}
 use Rattle.ranking.specs.Services.{placedOf, positionOf, answerOf, placesLeft, judgedAs, ofRecord, ofWord, standing, after, nextOf}
 use Rattle.ranking.specs.Outcomes.{standing-below, standing-past, position-word}
 use Rattle.ranking.specs.RoundTrips.{refused-alike}
@@ -47,13 +47,13 @@ use Rattle.ranking.specs.declared.Found.the-variants as found
 
 pub scratch-refused : (s : List ℕ) (o : Outcome) → length s < scratchSize
     → (placed.Refused 1 ≡ placedOf (lentScratch s o)) × (s ≡ scratchLeft (littleScratch s) s)
-unfolding placedOf lentScratch scratchLeft
+unfolding placedOf lentScratch memoryLeft
 scratch-refused s o h = rw (scratch-little s h) (refl, refl)
 
 pub scratch-served : (s t : List ℕ) (o : Outcome) (r : placed.the-data) → scratchSize ≤ length s
     → r ≡ placedOf o → t ≡ filled scratchSize [] s
     → (r ≡ placedOf (lentScratch s o)) × (t ≡ scratchLeft (littleScratch s) s)
-unfolding lentScratch scratchLeft
+unfolding lentScratch memoryLeft
 scratch-served s t o r h e f = rw (scratch-enough s h) (e, f)
 
 -- ---- a record that is placed
@@ -193,13 +193,13 @@ module _ (n i : ℕ) where
 
 pub little : (s p : List ℕ) (o : Outcome) → tooLittle 64 s p ≡ true
     → (found.Refused 1 ≡ answerOf (lent s p o)) × ((p ≡ placesLeft (lent s p o) p) × (s ≡ scratchLeft (tooLittle 64 s p) s))
-unfolding answerOf lent placesLeft scratchLeft
+unfolding answerOf lentOf placesLeft memoryLeft
 little s p o e = rw e (refl, (refl, refl))
 
 pub served : (s p s′ p′ : List ℕ) (o : Outcome) (r : Found) → scratchSize ≤ length s → 64 ≤ length p
     → r ≡ answerOf o → p′ ≡ placesLeft o p → s′ ≡ filled scratchSize [] s
     → (r ≡ answerOf (lent s p o)) × ((p′ ≡ placesLeft (lent s p o) p) × (s′ ≡ scratchLeft (tooLittle 64 s p) s))
-unfolding lent scratchLeft
+unfolding lentOf memoryLeft
 served s p s′ p′ o r h k e f g = rw (enough 64 s p (record { numbers = h; room = k })) (e, (f, g))
 
 -- The same by what was given.

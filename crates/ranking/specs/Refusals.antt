@@ -20,17 +20,17 @@ use Rattle.chains.specs.Rest.{pointAfter}
 use Rattle.chains.specs.Bounds.{point-at-most}
 use Rattle.chains.specs.Readers.{readers-good}
 use Rattle.chains.specs.RoundTrip.{chain-word-chain, word-reads}
-use Rattle.lent.specs.Lent.{scratchSize, Enough}
+use Rattle.lent.specs.Lent.{scratchSize, Lends, Enough}
 use Rattle.lent.specs.LentLaws.{scratch-little, little-scratch, little-places}
 use Rattle.words.specs.Records.{recordParts, Burned, judgedOf}
 use Rattle.words.specs.RecordLaws.{judged-sum}
 use Rattle.words.specs.Refusals.{WordRefusals, word-lifted, word-tested, RecordRefusals, record-lifted, judged-refusals}
 use Rattle.words.specs.declared.Judged.{Judged}
 use Rattle.words.specs.declared.Judged.the-variants as judged
-use Rattle.ranking.specs.Services.{Outcome, refused, gives, lent, lentScratch, answerOf, placedOf, atPosition}
+use Rattle.ranking.specs.Services.{Outcome, refused, gives, lent, lentOf, lentScratch, answerOf, placedOf, atPosition}
 use Rattle.ranking.specs.Services.{positionOf, ofWord, nextOf, judgedAs, ofRecord}
 use Rattle.ranking.specs.Outcomes.{same-refusal, no-refusal, standing-refused, of-gives, after-refused, after-last}
-use Rattle.ranking.specs.RoundTrips.{found-refused, placed-refused, refused-alike}
+use Rattle.ranking.specs.RoundTrips.{lent-all, answer-refused, found-refused, placed-refused, refused-alike}
 use Rattle.ranking.specs.declared.Placed.the-variants as placed
 use Rattle.ranking.specs.declared.Position.the-variants as told
 use Rattle.ranking.specs.declared.Found.the-variants as found
@@ -187,19 +187,27 @@ record-given l n = Iff·trans (as-judged (judgedOf l)) (judged-sum l n)
 abbrev pub Little : List ℕ → List ℕ → Type 0
 Little s p = (length s < scratchSize) ⊎ (length p < 64)
 
--- Where the outcome itself is not refused with 1: a service with places, and one that is lent a scratch alone.
-pub found-too-little : (s p : List ℕ) (o : Outcome) → ¬ (o ≡ refused 1) → (answerOf (lent s p o) ≡ found.Refused 1) ↔ Little s p
-unfolding answerOf lent
-found-too-little s p o n = by-sizes (decLt (length s) scratchSize) (decLt (length p) 64)
+-- Where the outcome itself is not refused with 1: a service that asks for `size` numbers and 64 places,
+pub lent-too-little : (size : ℕ) (s p : List ℕ) (o : Outcome) → ¬ (o ≡ refused 1)
+    → (lentOf size s p o ≡ refused 1) ↔ ((length s < size) ⊎ (length p < 64))
+unfolding lentOf
+lent-too-little size s p o n = by-sizes (decLt (length s) size) (decLt (length p) 64)
   where
-    by-sizes : Dec (length s < scratchSize) → Dec (length p < 64) → (answerOf (lent s p o) ≡ found.Refused 1) ↔ Little s p
+    by-sizes : Dec (length s < size) → Dec (length p < 64) → (lentOf size s p o ≡ refused 1) ↔ ((length s < size) ⊎ (length p < 64))
     by-sizes (yes h) d = (λ _. inl h, λ _. rw (little-scratch 64 s p h) refl)
-    by-sizes (no h) (yes k) = (λ _. inr k, λ _. rw (little-places 64 s p k) refl)
+    by-sizes (no h) (yes k) = (λ _. inr k, λ _. rw (little-places size 64 s p k) refl)
     by-sizes (no h) (no k) =
-        let e : Enough 64 s p = record { numbers = omega arith; room = omega arith } in (
-          λ f. absurd (n (found-refused s p e o 1 .0 f)),
-          ⊎-elim (λ (l : length s < scratchSize). absurd (h l)) (λ (l : length p < 64). absurd (k l)),
+        let e : Lends size 64 s p = record { numbers = omega arith; room = omega arith } in (
+          λ f. absurd (n (sym (lent-all s p o e) ∙ f)),
+          ⊎-elim (λ (l : length s < size). absurd (h l)) (λ (l : length p < 64). absurd (k l)),
         )
+
+-- one that asks for a scratch, and one that is lent a scratch alone.
+pub found-too-little : (s p : List ℕ) (o : Outcome) → ¬ (o ≡ refused 1) → (answerOf (lent s p o) ≡ found.Refused 1) ↔ Little s p
+found-too-little s p o n =
+    let told = answer-refused (lent s p o) 1 in
+    let little = lent-too-little scratchSize s p o n in
+    (λ e. little .0 (told .0 e), λ l. told .1 (little .1 l))
 
 placed-too-little : (s : List ℕ) (o : Outcome) → ¬ (o ≡ refused 1)
     → (placedOf (lentScratch s o) ≡ placed.Refused 1) ↔ (length s < scratchSize)

@@ -14,13 +14,13 @@ use Rattle.lent.specs.LentLaws.{filled-first, scratch-enough, enough, not-littl
 use Rattle.chains.specs.Chains.{Part, total, ChainOf}
 use Rattle.chains.specs.Words.{Word, wordOf}
 use Rattle.chains.specs.Listing.{count, position}
-use Rattle.lent.specs.Lent.{filled, scratchSize, littleScratch, tooLittle, Enough}
+use Rattle.lent.specs.Lent.{filled, scratchSize, littleScratch, tooLittle, Enough, Lends}
 use Rattle.parts.specs.Parts.{partNumber}
 use Rattle.words.specs.Records.{recordParts}
 use Rattle.words.specs.Conversions.{writtenOf, lettersLeft}
 use Rattle.words.specs.WordLaws.{chain-written}
 use Rattle.words.specs.declared.Written.the-variants as written
-use Rattle.ranking.specs.Services.{Outcome, refused, gives, lent, lentScratch, answerOf, placesLeft}
+use Rattle.ranking.specs.Services.{Outcome, refused, gives, lent, lentOf, lentScratch, answerOf, placesLeft}
 use Rattle.ranking.specs.Services.{placedOf, positionOf, atPosition, ofWord, after, nextOf, ofRecord}
 use Rattle.ranking.specs.Outcomes.{no-refusal, standing-refused, at-chain, at-gives, of-chain, of-gives}
 use Rattle.ranking.specs.Outcomes.{after-refused, next-below, next-last, next-gives, record-chain, record-gives, record-sum}
@@ -33,19 +33,20 @@ use Rattle.ranking.specs.declared.Found.the-variants as found
 -- ---- answers and outcomes
 
 lent-enough : (scratch places : List ℕ) (o : Outcome) → tooLittle 64 scratch places ≡ false → lent scratch places o ≡ o
-unfolding lent
+unfolding lentOf
 lent-enough scratch places o e = rw e
 
 -- Then the outcome is the service's own.
-pub lent-all : (scratch places : List ℕ) (o : Outcome) → Enough 64 scratch places → lent scratch places o ≡ o
-lent-all scratch places o h = lent-enough scratch places o (enough 64 scratch places h)
+pub lent-all : {size : ℕ} (memory places : List ℕ) (o : Outcome) → Lends size 64 memory places → lentOf size memory places o ≡ o
+unfolding lentOf
+lent-all memory places o h = rw (enough 64 memory places h)
 
 pub lent-scratch : (scratch : List ℕ) (o : Outcome) → scratchSize ≤ length scratch → lentScratch scratch o ≡ o
 unfolding lentScratch
 lent-scratch scratch o h = rw (scratch-enough scratch h)
 
 -- A refusal is answered exactly if the outcome is one,
-answer-refused : (o : Outcome) (r : ℕ) → (answerOf o ≡ found.Refused r) ↔ (o ≡ refused r)
+pub answer-refused : (o : Outcome) (r : ℕ) → (answerOf o ≡ found.Refused r) ↔ (o ≡ refused r)
 unfolding answerOf
 answer-refused (refused q) r = (λ e. cc, λ e. cc)
 answer-refused (gives n c) r = (λ e. let z : _≡_ {A = ℕ} 0 1 = cc in absurd (omega arith), λ e. absurd (no-refusal n c r e))
@@ -78,7 +79,7 @@ found-gives :
     → answerOf (lent scratch places o) ≡ found.Chain n i k
     → ((c : List Part) → o ≡ gives n c → tooLittle 64 scratch places ≡ false → position n c ≡ i → length c ≡ k → P)
     → P
-unfolding lent answerOf
+unfolding lentOf answerOf
 found-gives scratch places o n i k e then =
     let (m, c, enough, given) =
     own-gives (tooLittle 64 scratch places) o (λ r f. let z : _≡_ {A = ℕ} 0 1 = cc (rw f at e) in omega arith) in
@@ -102,7 +103,7 @@ placed-gives scratch o n i e then =
 -- A chain is the outcome only where enough is lent, and then it is the service's own.
 pub lent-gives : (scratch places : List ℕ) (o : Outcome) (n : ℕ) (c : List Part) → lent scratch places o ≡ gives n c
     → Enough 64 scratch places × (o ≡ gives n c)
-unfolding lent
+unfolding lentOf
 lent-gives scratch places o n c e =
     let (m, d, enough, given) = own-gives (tooLittle 64 scratch places) o (λ r f. no-refusal n c r (sym e ∙ f)) in
     (not-little 64 scratch places enough, rw enough at e)

@@ -11,7 +11,7 @@ use lib.ListN.{length}
 use Rattle.chains.specs.Chains.{Part, total}
 use Rattle.chains.specs.Words.{Word, chainOf, reads}
 use Rattle.chains.specs.Listing.{count, position, chainAt}
-use Rattle.lent.specs.Lent.{filled, littleScratch, tooLittle}
+use Rattle.lent.specs.Lent.{filled, scratchSize, littleScratch, tooFew}
 use Rattle.parts.specs.Parts.{partNumber}
 use Rattle.words.specs.declared.Judged.{Judged}
 use Rattle.words.specs.declared.Judged.the-variants as judged
@@ -30,9 +30,13 @@ pub data Outcome : Type 0 where
   refused : ℕ → Outcome
   gives : ℕ → List Part → Outcome
 
--- Refusal 1 first.
-unfoldable pub lent : List ℕ → List ℕ → Outcome → Outcome
-lent scratch places o = cond (tooLittle 64 scratch places) (refused 1) o
+-- Refusal 1 first: of a service that asks for `size` numbers and 64 places,
+unfoldable pub lentOf : ℕ → List ℕ → List ℕ → Outcome → Outcome
+lentOf size memory places o = cond (tooFew size 64 memory places) (refused 1) o
+
+-- and of one that asks for a scratch.
+abbrev pub lent : List ℕ → List ℕ → Outcome → Outcome
+lent scratch places o = lentOf scratchSize scratch places o
 
 -- ---- what a service answers and leaves behind
 

@@ -10,7 +10,7 @@ use borrow.Author.Tests.{ltb-false, lt-ltb, le-ltb}
 use lib.Dec.{ltb}
 use lib.ListN.{length, take, length-append, length-take}
 use lib.Seq.{take-at}
-use Rattle.lent.specs.Lent.{filled, scratchSize, littleScratch, tooLittle}
+use Rattle.lent.specs.Lent.{filled, scratchSize, tooLittle, tooFew, fewer}
 use Rattle.lent.specs.LentLaws.{filled-first, enough, neither}
 use Rattle.lines.specs.Stream.{finished, unfinished, lastLine, repliesTo}
 use Rattle.frames.specs.Replies.{replyOf}
@@ -39,7 +39,7 @@ module _ (kept : List ℕ) (k : ℕ) (scratch out : List ℕ) where
   enough-lent e = by-k (e .memory .numbers) (e .memory .room) (e .kept-lent) ∙ le-ltb 515 k (e .line-kept)
 
   pub lent-enough : little kept k scratch out ≡ false → Lending kept k scratch out
-  unfolding little tooLittle littleScratch
+  unfolding little tooFew fewer
   lent-enough e =
       let a = neither (tooLittle 515 scratch out) (ltb (length kept) 515 || ltb 515 k) e in
       let m = neither (ltb (length scratch) scratchSize) (ltb (length out) 515) (a .0) in

@@ -4,7 +4,7 @@ use mathlib.Core.Bool.{true}
 use mathlib.Core.List.{List}
 use Prim.Native.Nat.{ℕ}
 use borrow.Author.Needs.{needs}
-use Rattle.lent.specs.Lent.{scratchLeft, tooLittle, Enough}
+use Rattle.lent.specs.Lent.{scratchLeft, tooLittle, Enough, scratchSize, memoryLeft}
 use Rattle.lent.specs.LentLaws.{little-scratch, little-places, enough}
 use Rattle.lines.specs.Lines.{shapeOf, shapeCode}
 use Rattle.lines.specs.LineLaws.{refused-shape}
@@ -20,13 +20,13 @@ module _ (line s out : List ℕ) where
   refused-1 : tooLittle 514 s out ≡ true
       → (replied.Refused 1 ≡ answerTo (tooLittle 514 s out) line)
       × ((out ≡ outLeft (tooLittle 514 s out) line out) × (s ≡ scratchLeft (tooLittle 514 s out) s))
-  unfolding answerTo repliedOf outLeft scratchLeft
+  unfolding answerTo repliedOf outLeft memoryLeft
   refused-1 e = rw e (refl, (refl, refl))
 
   answered : (r : Replied) (s′ out′ : List ℕ) → Enough 514 s out → Handled (replyTo line) r s s′ out out′
       → (r ≡ answerTo (tooLittle 514 s out) line)
       × ((out′ ≡ outLeft (tooLittle 514 s out) line out) × (s′ ≡ scratchLeft (tooLittle 514 s out) s))
-  unfolding answerTo outLeft replyOf scratchLeft
+  unfolding answerTo outLeft replyOf memoryLeft
   answered r s′ out′ l h = rw (enough 514 s out l) (h .told .answer, (h .told .digits, h .zeroed))
 
 refused-line : (line : List ℕ) (number : ℕ) → shape.Refused number ≡ shapeCode (shapeOf line) → replyTo line ≡ refusedAs number
@@ -41,7 +41,7 @@ returns c =
 returns-2 : tie.Need-returns-2
 returns-2 c =
     let s = c .before .before .before .before .before in
-    refused-1 _ _ _ (little-places 514 _ _ (c .if2 .taken))
+    refused-1 _ _ _ (little-places scratchSize 514 _ _ (c .if2 .taken))
 
 serve-kind-requires : tie.Need-serve-kind-requires
 serve-kind-requires c κs =

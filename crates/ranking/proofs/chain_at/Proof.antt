@@ -1,6 +1,7 @@
 -- `chain_at` meets its contract: the word at the position is found, and its parts are given.
 use mathlib.Core.Path.{sym, _∙_}
 use borrow.Author.Needs.{needs}
+use Rattle.lent.specs.Lent.{scratchSize}
 use Rattle.lent.specs.LentLaws.{little-scratch, little-places, served-zeroed}
 use Rattle.counting.specs.RankedLaws.{list-served}
 use Rattle.ranking.specs.Services.{atPosition}
@@ -42,7 +43,7 @@ chain-at-spec =
     tie.close
     (tie.spec
     (λ c. little _ _ _ (little-scratch 64 _ _ (c .if1 .taken)))
-    (λ c. little _ _ _ (little-places 64 _ _ (c .if2 .taken)))
+    (λ c. little _ _ _ (little-places scratchSize 64 _ _ (c .if2 .taken)))
     (λ c κs. search needs)
     (λ c. search needs)
     (λ c κs. c .before .before .before .before .before .before .before .before .if2 .left)

@@ -1,6 +1,7 @@
 -- `next_chain` meets its contract: what comes next of a word that is packed is what stands one position on.
 use mathlib.Core.Path.{sym, _∙_}
 use borrow.Author.Needs.{needs}
+use Rattle.lent.specs.Lent.{scratchSize}
 use Rattle.lent.specs.LentLaws.{little-scratch, little-places}
 use Rattle.words.specs.PackedLaws.{packed-letters}
 use Rattle.ranking.proofs.Answers.{little, served-given, refused-served, word-held, next-standing, next-refused}
@@ -31,7 +32,7 @@ next-chain-spec =
     tie.close
     (tie.spec
     (λ c. little _ _ _ (little-scratch 64 _ _ (c .if1 .taken)))
-    (λ c. little _ _ _ (little-places 64 _ _ (c .if2 .taken)))
+    (λ c. little _ _ _ (little-places scratchSize 64 _ _ (c .if2 .taken)))
     (λ c κs. search needs)
     (λ c. search needs)
     (λ c κs. let t = c .before .before .before .before .before .before in (t .before .if1 .left, t .if2 .left))

@@ -1,6 +1,7 @@
 -- `read_word` meets its contract: a word that is packed stands in the list of its number.
 use mathlib.Core.Path.{sym, _∙_}
 use borrow.Author.Needs.{needs}
+use Rattle.lent.specs.Lent.{scratchSize}
 use Rattle.lent.specs.LentLaws.{little-scratch, little-places}
 use Rattle.words.specs.PackedLaws.{packed-letters}
 use Rattle.ranking.proofs.Answers.{little, served-given, refused-served, word-gives, word-held, held-chain, word-refused}
@@ -31,7 +32,7 @@ read-word-spec =
     tie.close
     (tie.spec
     (λ c. little _ _ _ (little-scratch 64 _ _ (c .if1 .taken)))
-    (λ c. little _ _ _ (little-places 64 _ _ (c .if2 .taken)))
+    (λ c. little _ _ _ (little-places scratchSize 64 _ _ (c .if2 .taken)))
     (λ c κs. search needs)
     (λ c. search needs)
     (λ c κs. let t = c .before .before .before .before .before .before in (t .before .if1 .left, t .if2 .left))

@@ -7,7 +7,7 @@ use native.Mathlib.Omega.{arith}
 use borrow.Author.Needs.{needs}
 use lib.ListN.{length, take}
 use Rattle.lent.specs.LentLaws.{used-left}
-use Rattle.lent.specs.Lent.{filled, OnlyFirst, scratchSize, littleScratch, scratchLeft}
+use Rattle.lent.specs.Lent.{filled, OnlyFirst, scratchSize, littleScratch, scratchLeft, memoryLeft}
 use Rattle.lines.specs.Stream.{finished, unfinished}
 use Rattle.stream.specs.Answers.{Goes, usedOf, fedOf, keptLeft, repliesLeft}
 use Rattle.stream.specs.AnswerLaws.{lent-enough}
@@ -33,7 +33,7 @@ Contract b line block kept keptExit scratch scratchExit out outExit r =
 
 too-little : (b : Bool) (line block kept scratch out : List ℕ) → b ≡ true
     → Contract b line block kept kept scratch scratch out out (fed.Refused 1)
-unfolding usedOf fedOf keptLeft repliesLeft scratchLeft
+unfolding usedOf fedOf keptLeft repliesLeft memoryLeft
 too-little b line block kept scratch out e = rw e (refl, ((λ f. absurd (true≢false f)), (refl, (refl, refl))))
 
 done : (b : Bool) (line block keptEntry kept keptExit scratchEntry scratch scratchExit outEntry out : List ℕ) (used left written : ℕ)
@@ -43,7 +43,7 @@ done : (b : Bool) (line block keptEntry kept keptExit scratchEntry scratch scrat
     → keptExit ≡ filled 515 (take left kept) kept → scratchExit ≡ scratchLeft (littleScratch scratch) scratch
     → Contract b line block keptEntry keptExit scratchEntry scratchExit outEntry out
     (fed.Taken used left written)
-unfolding usedOf fedOf keptLeft repliesLeft scratchLeft
+unfolding usedOf fedOf keptLeft repliesLeft memoryLeft
 done b line block keptEntry kept keptExit scratchEntry scratch scratchExit outEntry out used left written e room g w h l f z =
     rw (e, w .count, h .count) (
       refl,

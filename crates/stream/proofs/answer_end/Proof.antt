@@ -9,7 +9,7 @@ use borrow.Author.Needs.{needs}
 use lib.ListN.{length, take}
 use lib.Seq.{length-take-le}
 use Rattle.lent.specs.LentLaws.{served-zeroed}
-use Rattle.lent.specs.Lent.{filled, scratchSize, littleScratch, scratchLeft}
+use Rattle.lent.specs.Lent.{filled, scratchSize, littleScratch, scratchLeft, memoryLeft}
 use Rattle.lines.specs.Stream.{lastLine}
 use Rattle.frames.specs.Replies.{replyOf}
 use Rattle.stream.specs.Answers.{repliesLeft, endedOf}
@@ -32,13 +32,13 @@ Contract b line scratch scratchExit out outExit r =
     (r ≡ endedOf b line) × ((outExit ≡ repliesLeft b (lastLine line) out) × (scratchExit ≡ scratchLeft b scratch))
 
 too-little : (b : Bool) (line scratch out : List ℕ) → b ≡ true → Contract b line scratch scratch out out (ended.Refused 1)
-unfolding endedOf repliesLeft scratchLeft
+unfolding endedOf repliesLeft memoryLeft
 too-little b line scratch out e = rw e (refl, (refl, refl))
 
 module _ (b : Bool) (kept : List ℕ) (k : ℕ) (scratch out : List ℕ) (enough : b ≡ false) where
   written : (scratchExit outExit : List ℕ) (n : ℕ) → Wrote (lastLine (take k kept)) out outExit n
       → scratchExit ≡ filled scratchSize [] scratch → Contract b (take k kept) scratch scratchExit out outExit (ended.Written n)
-  unfolding endedOf repliesLeft scratchLeft
+  unfolding endedOf repliesLeft memoryLeft
   written scratchExit outExit n w z = rw (enough, w .count) (refl, (w .replies, z))
 
   no-line : (scratchExit : List ℕ) → scratchSize ≤ length scratch → k ≡ 0 → scratchExit ≡ scratchLeft (littleScratch scratch) scratch

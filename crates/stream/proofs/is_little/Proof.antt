@@ -1,6 +1,7 @@
 -- `is_little` makes one test for each of the four.
 use mathlib.Core.Path.{sym}
 use native.Mathlib.Omega.{arith}
+use Rattle.lent.specs.Lent.{scratchSize}
 use Rattle.lent.specs.LentLaws.{little-scratch, little-places}
 use Rattle.stream.specs.AnswerLaws.{little-memory, few-kept, by-k}
 use Rattle.stream.proofs.is_little.Statement.{statement}
@@ -10,7 +11,7 @@ returns : tie.Need-returns
 returns c = sym (little-memory _ _ _ _ (little-scratch 515 _ _ (omega arith)))
 
 returns-2 : tie.Need-returns-2
-returns-2 c = sym (little-memory _ _ _ _ (little-places 515 _ _ (omega arith)))
+returns-2 c = sym (little-memory _ _ _ _ (little-places scratchSize 515 _ _ (omega arith)))
 
 returns-3 : tie.Need-returns-3
 returns-3 c = sym (few-kept _ _ _ _ (omega arith))

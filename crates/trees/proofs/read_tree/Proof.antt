@@ -80,7 +80,7 @@ read-tree-spec =
     tie.close
     (tie.spec
     (λ c. little _ _ _ (little-scratch 64 _ _ (c .if1 .taken)))
-    (λ c. little _ _ _ (little-places 64 _ _ (c .if2 .taken)))
+    (λ c. little _ _ _ (little-places scratchSize 64 _ _ (c .if2 .taken)))
     (λ c κs. search needs)
     (λ c. search needs)
     (λ c. search needs)

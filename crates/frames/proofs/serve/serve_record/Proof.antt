@@ -9,7 +9,7 @@ use native.Mathlib.Omega.{arith}
 use borrow.Author.Needs.{needs}
 use lib.ListN.{length, length-map}
 use Rattle.lent.specs.LentLaws.{scratch-enough}
-use Rattle.lent.specs.Lent.{scratchSize, littleScratch, scratchLeft}
+use Rattle.lent.specs.Lent.{scratchSize, littleScratch, scratchLeft, memoryLeft}
 use Rattle.chains.specs.Bounds.{parts-bound}
 use Rattle.parts.specs.Parts.{partNumber}
 use Rattle.ranking.specs.Services.{Outcome, refused, gives, lentScratch, placedOf, ofRecord}
@@ -75,7 +75,7 @@ module _ (l s : List ℕ) (x : Placed) (room : scratchSize ≤ length s) (e : x 
 
   handled : (right : Bool) (y : Reply) (r : Replied) (s′ out out′ : List ℕ) → reply right ≡ y → s′ ≡ scratchLeft (littleScratch s) s
       → Told y r out out′ → Handled (reply right) r s s′ out out′
-  unfolding scratchLeft
+  unfolding memoryLeft
   handled right y r s′ out out′ f left told =
       record { told = rw f told; zeroed = rw (scratch-enough s room) at left }
 

@@ -1,10 +1,10 @@
--- `rows::live_columns` meets its contract: the leading zeros and the length in bits make 64.
+-- `live_columns` meets its contract: the leading zeros and the length in bits make 64.
 use mathlib.Core.Path.{_≡_}
 use Prim.Native.Nat.{_-_, _^_, _<_}
 use native.Mathlib.Omega.{arith}
 use lib.Count.{leadingZeros, leading-le, leading-length}
-use Rattle.counting.proofs.rows.live_columns.Statement.{statement}
-use Rattle.counting.proofs.rows.live_columns.Tie as tie
+use Rattle.grid.proofs.live_columns.Statement.{statement}
+use Rattle.grid.proofs.live_columns.Tie as tie
 
 returns : tie.Need-returns
 returns c =
