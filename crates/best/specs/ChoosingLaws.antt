@@ -4,7 +4,7 @@
 -- with the rows of keys in the scratch ask and give.
 use mathlib.Core.Path.{_≡_, refl, sym, subst, _∙_}
 use mathlib.Core.Bool.{true}
-use mathlib.Core.List.{List, []}
+use mathlib.Core.List.{List}
 use mathlib.Core.Option.{Option, none, some}
 use Prim.Native.Nat.{ℕ, _*_, _+_, _/_, _%_, _^_, _≤_, _<_, min}
 use native.Mathlib.Omega.{arith}
@@ -13,7 +13,7 @@ use lib.ListN.{length, getD}
 use borrow.Author.Tests.{le-leb, lt-leb}
 use Rattle.lent.specs.Lent.{scratchSize}
 use Rattle.chains.specs.Chains.{Part, ChainOf}
-use Rattle.chains.specs.Words.{Word, origin, chainFrom, chainOf, reads}
+use Rattle.chains.specs.Words.{Word, origin, chainOf, reads}
 use Rattle.chains.specs.Listing.{wordsAt}
 use Rattle.chains.specs.Best.{Prices, price, Limits, bestChain}
 use Rattle.chains.specs.BestLaws.{first-of-zero}

@@ -6,7 +6,7 @@
 use mathlib.Core.Path.{_≡_, refl, sym, ap, subst, _∙_}
 use mathlib.Core.Bool.{Bool, true, false, cond}
 use mathlib.Core.List.{List, [], _∷_}
-use mathlib.Core.Option.{Option, none, some}
+use mathlib.Core.Option.{none, some}
 use Prim.Native.Nat.{ℕ, zero, suc, _+_, _*_, _/_, _%_, _^_, _-_, _≤_, _<_, min}
 use native.Mathlib.Nat.{add-zero, le-div-iff-mul-le, lt-of-not-le, mod-eq-of-lt, mul-assoc, pow-suc}
 use native.Mathlib.Numerals.{add-one, one-add}

@@ -1,10 +1,10 @@
 -- A test that a walk carries along (Keys), over any costs of letters: the words that pass from those of the half and the third, how many
 -- they are, the best of them, and its key.
 --
--- In this order: two tests at once; the words of a rest; a letter before words; the words that pass, by a rise of a and by a rise of b (`passing-step`); how
--- many pass (`how-many-step`); the best of them (`best-on-step`); its key, a number as a table holds it (`least-on-step`), and the two
--- choices of a walk along such a table (`take-a-on`, `take-b-on`). Bests has these for the limits on a and b, PartLimit for that on the
--- parts.
+-- In this order: two tests at once; the words of a rest; a letter before words; the words that pass, by a rise of a and by a rise of b
+-- (`passing-step`); how many pass (`how-many-step`); the best of them (`best-on-step`); its key, a number as a table holds it
+-- (`least-on-step`), and the two choices of a walk along such a table (`take-a-on`, `take-b-on`). Bests has these for the limits on a and
+-- b, PartLimit for that on the parts.
 use mathlib.Core.Path.{_≡_, refl, ap, ap₂, _∙_}
 use mathlib.Core.Logic.{_≢_, ⊎-elim}
 use mathlib.Core.Bool.{Bool, true, false, cond, _&&_}

@@ -12,7 +12,7 @@ use native.Mathlib.Omega.{arith}
 use lib.Dec.{T}
 use lib.ListN.{length, getD}
 use Rattle.chains.specs.Chains.{Part, ChainOf}
-use Rattle.chains.specs.Words.{Word, chainFrom, chainOf, reads}
+use Rattle.chains.specs.Words.{Word, chainOf, reads}
 use Rattle.chains.specs.Listing.{wordsAt}
 use Rattle.chains.specs.Best.{Prices, price, Limits, Within, cheapestChain, countUpTo}
 use Rattle.chains.specs.BestLaws.{same-limits, first-of-zero}

@@ -207,7 +207,8 @@ fn fill_block(
     most: usize,
 )
     requires { ⌜ BlockAsked counting (now costs) doublings triplings b a m up most (now part) ⌝ }
-    ensures { λ _. ⌜ Filled (cellIn counting (now (costs .entry)) doublings triplings b a m) (suc most) (now (part .entry)) (now (part .exit)) ⌝ }
+    ensures { λ _. ⌜ Filled (cellIn counting (now (costs .entry)) doublings triplings b a m) (suc most)
+        (now (part .entry)) (now (part .exit)) ⌝ }
 {
     if counting {
         fill_counts(part, m, up, most);
@@ -238,7 +239,8 @@ fn fill_row(
     most: usize,
 )
     requires { ⌜ RowStart counting (now costs) doublings triplings b m up most (now part) ⌝ }
-    ensures { λ _. ⌜ RowFilled (cellIn counting (now (costs .entry)) doublings triplings b) m up (suc most) 0 (now (part .entry)) (now (part .exit)) ⌝ }
+    ensures { λ _. ⌜ RowFilled (cellIn counting (now (costs .entry)) doublings triplings b) m up (suc most) 0
+        (now (part .entry)) (now (part .exit)) ⌝ }
 {
     let mut a = grid::live_columns(m);
     while 0 < a {
@@ -278,7 +280,8 @@ pub fn fill_rows(
     most: usize,
 )
     requires { ⌜ TableStart (now costs) most (now scratch) ⌝ }
-    ensures { λ _. ⌜ TableFilled (cellIn counting (now (costs .entry)) doublings triplings) n (suc most) 0 (now (scratch .entry)) (now (scratch .exit)) ⌝ }
+    ensures { λ _. ⌜ TableFilled (cellIn counting (now (costs .entry)) doublings triplings) n (suc most) 0
+        (now (scratch .entry)) (now (scratch .exit)) ⌝ }
 {
     let mut power: u64 = 12157665459056928801;
     let mut at = TABLE;
