@@ -11,7 +11,7 @@ use Rattle.std.proofs.Math.Seq.{take_at}
 use borrow.Rule.Slice.PartMut.{mid_of, put_mid}
 use borrow.Author.Tests.{lt-ltb, le-ltb, eq-eqb, ne_eqb}
 use Rattle.chains.specs.Chains.{Part, Chained, total}
-use Rattle.chains.specs.Bounds.{parts_bound}
+use Rattle.chains.proofs.Bounds.{parts_bound}
 use Rattle.lent.specs.Lent.{zeros, filled}
 use Rattle.lent.specs.LentLaws.{length_zeros, length_filled, cleared}
 use Rattle.parts.specs.Parts.{part_number}
@@ -21,10 +21,10 @@ use Rattle.moves.specs.Moves.{Move}
 use Rattle.moves.specs.Rows.{Rows, Held, rows_of}
 use Rattle.moves.specs.Walks.{WalkRows}
 use Rattle.moves.specs.RowMoves.{RowMove}
-use Rattle.moves.specs.MoveLaws.{MoveFor, move_for, move_one, move_tie, move_keeps, chain_held}
-use Rattle.moves.specs.Deciding.{movable}
-use Rattle.moves.specs.Ends.{walk_one}
-use Rattle.moves.specs.WalkLaws.{the_walk, walk_rows, walk_ones}
+use Rattle.moves.proofs.MoveLaws.{MoveFor, move_for, move_one, move_tie, move_keeps, chain_held}
+use Rattle.moves.proofs.Deciding.{movable}
+use Rattle.moves.proofs.Ends.{walk_one}
+use Rattle.moves.proofs.WalkLaws.{the_walk, walk_rows, walk_ones}
 use Rattle.bench.specs.declared.Benched.TheVariants as benched
 use Rattle.bench.specs.declared.Walked.TheVariants as walked
 use Rattle.bench.specs.declared.Told.TheVariants as told

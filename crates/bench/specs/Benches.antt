@@ -13,9 +13,9 @@ use Rattle.words.specs.Records.{record_parts, judged_of}
 use Rattle.words.specs.declared.Judged.{Judged}
 use Rattle.words.specs.declared.Judged.TheVariants as judged
 use Rattle.moves.specs.Rows.{rows_of}
-use Rattle.moves.specs.Deciding.{movable}
+use Rattle.moves.proofs.Deciding.{movable}
 use Rattle.moves.specs.Moves.{TheWalk}
-use Rattle.moves.specs.WalkLaws.{the_walk}
+use Rattle.moves.proofs.WalkLaws.{the_walk}
 use Rattle.bench.specs.Sound.{number_in, state_at, saved_in, Sound}
 use Rattle.bench.specs.Judging.{sound?}
 use Rattle.bench.specs.declared.Benched.{Benched}

@@ -6,10 +6,10 @@ use Prim.Native.Nat.{ℕ, zero, suc, ◌+◌, ◌-◌, ◌*◌, ◌/◌, ◌^◌
 use Rattle.std.proofs.Math.Nat.{dvd-zero}
 use Rattle.std.proofs.Math.Pow.{pow_pos}
 use Rattle.moves.specs.Rows.{Rows, amount, Over, Laid, Held, Laying}
-use Rattle.moves.specs.RowLaws.{over_less, exp_lt, amount_drop, amount_back}
-use Rattle.moves.specs.BitLaws.{low_dvd, low_most, low_exists}
+use Rattle.moves.proofs.RowLaws.{over_less, exp_lt, amount_drop, amount_back}
+use Rattle.moves.proofs.BitLaws.{low_dvd, low_most, low_exists}
 use Rattle.moves.specs.Amounts.{low_bit}
-use Rattle.moves.specs.MoveLaws.{chain_held, held_chain}
+use Rattle.moves.proofs.MoveLaws.{chain_held, held_chain}
 
 -- ---- rows from some row on
 

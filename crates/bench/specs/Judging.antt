@@ -3,7 +3,7 @@
 use Rattle.std.specs.Prelude.{◌≡◌, List, ℕ, suc, ◌^◌, ◌<◌}
 use Rattle.std.proofs.Math.Decide.{dec_lt, ℕ_discrete}
 use Rattle.moves.specs.Rows.{Laying}
-use Rattle.moves.specs.Deciding.{laying?, every_below, implies, isnt}
+use Rattle.moves.proofs.Deciding.{laying?, every_below, implies, isnt}
 use Rattle.bench.specs.Sound.{number_in, state_at, saved_in, Sound}
 
 -- Whether a bench is sound.

@@ -8,7 +8,7 @@ use Rattle.lent.specs.Lent.{zeros}
 use Rattle.lent.specs.LentLaws.{length_zeros, zeros_at}
 use Rattle.chains.specs.Chains.{Part, ChainOf}
 use Rattle.moves.specs.Rows.{rows_of, Laying}
-use Rattle.moves.specs.Layouts.{length_rows}
+use Rattle.moves.proofs.Layouts.{length_rows}
 use Rattle.bench.specs.Sound.{number_in, state_at, saved_in, Sound}
 use Rattle.bench.specs.Benches.{with_state, with_saved, opened}
 

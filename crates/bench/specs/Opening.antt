@@ -7,14 +7,14 @@ use mathlib.Core.List.{List, [], ◌∷◌, ◌++◌, map, append_assoc}
 use Rattle.std.proofs.Math.ListN.{length, drop, length-append}
 use Rattle.std.proofs.lemmas.List.{replicate-append-replicate}
 use borrow.Rule.Slice.PartMut.{mid_of, put_mid}
-use Rattle.chains.specs.Bounds.{part_bounds}
+use Rattle.chains.proofs.Bounds.{part_bounds}
 use Rattle.chains.specs.Chains.{Part, Chained, total}
 use Rattle.lent.specs.Lent.{zeros, filled}
 use Rattle.lent.specs.LentLaws.{length_zeros, cleared}
-use Rattle.moves.specs.BitLaws.{shl_one}
+use Rattle.moves.proofs.BitLaws.{shl_one}
 use Rattle.moves.specs.Rows.{add_at, rows_of, Rows, zeros as no_rows}
-use Rattle.moves.specs.Layouts.{add_least, laid_out, length_rows}
-use Rattle.moves.specs.Chaining.{chained_rest}
+use Rattle.moves.proofs.Layouts.{add_least, laid_out, length_rows}
+use Rattle.moves.proofs.Chaining.{chained_rest}
 use Rattle.parts.specs.Largest.{exponents_at_lem}
 use Rattle.parts.specs.Numbers.{part_value, part_below}
 use Rattle.parts.specs.Parts.{part_at, exponents_at}

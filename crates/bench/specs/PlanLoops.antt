@@ -10,15 +10,15 @@ use Rattle.std.proofs.Math.Decide.{dec_lt}
 use Rattle.std.specs.Int.Bits.{bit_and}
 use Rattle.std.proofs.lemmas.Nat.{and_mask}
 use Rattle.moves.specs.Rows.{Rows, Held}
-use Rattle.moves.specs.Phases.{next_at}
+use Rattle.moves.proofs.Phases.{next_at}
 use Rattle.moves.specs.Amounts.{Tells, low_bit, rise_kind, rise_by, fall_kind, fall_by}
-use Rattle.moves.specs.AmountLaws.{fall_complete}
-use Rattle.moves.specs.BitLaws.{low_exists}
+use Rattle.moves.proofs.AmountLaws.{fall_complete}
+use Rattle.moves.proofs.BitLaws.{low_exists}
 use Rattle.moves.specs.Changes.{raised, lowered, Free, past_of}
-use Rattle.moves.specs.ChangeLaws.{past_is, fits_rows}
-use Rattle.moves.specs.RowLaws.{row_amount}
+use Rattle.moves.proofs.ChangeLaws.{past_is, fits_rows}
+use Rattle.moves.proofs.RowLaws.{row_amount}
 use Rattle.moves.specs.Plans.{PlannedUp}
-use Rattle.moves.specs.PlanLaws.{up_none, up_other, up_blocked, up_planned, rise_bounds, fell_bounds}
+use Rattle.moves.proofs.PlanLaws.{up_none, up_other, up_blocked, up_planned, rise_bounds, fell_bounds}
 
 -- ---- powers of two
 

@@ -8,8 +8,8 @@ use Rattle.moves.specs.Moves.{Move, Binary, Walk, points_in}
 use Rattle.moves.specs.Rows.{Rows, rows_of}
 use Rattle.moves.specs.RowMoves.{RowMove}
 use Rattle.moves.specs.Walks.{WalkRows}
-use Rattle.moves.specs.MoveLaws.{move_for}
-use Rattle.moves.specs.WalkLaws.{walk_rows, walk_keeps, walk_bound, walk_ones}
+use Rattle.moves.proofs.MoveLaws.{move_for}
+use Rattle.moves.proofs.WalkLaws.{walk_rows, walk_keeps, walk_bound, walk_ones}
 use Rattle.bench.specs.declared.Walked.TheVariants as walked
 use Rattle.bench.specs.Sound.{number_in, state_at, Sound}
 use Rattle.bench.specs.Benches.{with_state, refused, leaves, move_outcome, walked_of, walk_left}

@@ -8,9 +8,9 @@ use Rattle.std.proofs.Common.{sym, ap, ◌∙◌, arith}
 use Rattle.std.proofs.Math.Decide.{dec_lt, ℕ_discrete}
 use Rattle.words.specs.Records.{record_parts, Burned}
 use Rattle.moves.specs.Rows.{rows_of}
-use Rattle.moves.specs.MoveLaws.{move_keeps}
-use Rattle.moves.specs.Deciding.{movable}
-use Rattle.moves.specs.WalkLaws.{the_walk, walk_keeps}
+use Rattle.moves.proofs.MoveLaws.{move_keeps}
+use Rattle.moves.proofs.Deciding.{movable}
+use Rattle.moves.proofs.WalkLaws.{the_walk, walk_keeps}
 use Rattle.bench.specs.Sound.{number_in, state_at, saved_in, Sound}
 use Rattle.bench.specs.Benches.{with_saved, opened, bench_left, refused, move_outcome, save_outcome, back_outcome, walk_left}
 use Rattle.bench.specs.Benches.{walk_of}

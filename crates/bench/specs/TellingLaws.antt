@@ -9,17 +9,17 @@ use Rattle.std.proofs.lemmas.Nat.{leading_top}
 use Rattle.std.proofs.lemmas.List.Edits.{sets, sets-eq}
 use Rattle.std.proofs.Math.Seq.{length-sets}
 use Rattle.std.proofs.lemmas.Bool.{lt-leb}
-use Rattle.chains.specs.Bounds.{chain_bounds, parts_bound}
+use Rattle.chains.proofs.Bounds.{chain_bounds, parts_bound}
 use Rattle.chains.specs.Chains.{Part, Chained, total}
 use Rattle.lent.specs.Lent.{filled}
 use Rattle.lent.specs.LentLaws.{over_zeros}
-use Rattle.moves.specs.BitLaws.{shl_one}
+use Rattle.moves.proofs.BitLaws.{shl_one}
 use Rattle.moves.specs.Rows.{add_at, rows_of, Rows, Zeros, zeros as no_rows}
-use Rattle.moves.specs.Chaining.{chained_rest}
-use Rattle.moves.specs.Layouts.{laid_out_room, length_rows, room_within, Room}
-use Rattle.moves.specs.RowLaws.{zeros_zeros}
+use Rattle.moves.proofs.Chaining.{chained_rest}
+use Rattle.moves.proofs.Layouts.{laid_out_room, length_rows, room_within, Room}
+use Rattle.moves.proofs.RowLaws.{zeros_zeros}
 use Rattle.parts.specs.Parts.{part_number}
-use Rattle.moves.specs.RowsOf.{add_here, add_there, room_row}
+use Rattle.moves.proofs.RowsOf.{add_here, add_there, room_row}
 use Rattle.bench.specs.Telling.{Tellable, ToldRows, row_parts, parts_below, row_numbers}
 
 -- ---- the parts of a row

@@ -7,6 +7,8 @@
 //
 // Every service looks first whether enough is lent (refusal 1). All but opening look next whether the present and each saved state is
 // a chain of n (refusal 17). With a refusal the bench is as it was. Numbers after these 378 are never touched.
+#![tactic(auto)]
+
 mod amounts;
 mod laying;
 mod moving;

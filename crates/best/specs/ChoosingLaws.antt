@@ -12,16 +12,16 @@ use Rattle.chains.specs.Chains.{Part, ChainOf}
 use Rattle.chains.specs.Words.{Word, origin, chain_of, reads}
 use Rattle.chains.specs.Listing.{words_at}
 use Rattle.chains.specs.Best.{Prices, price, Limits, best_chain}
-use Rattle.chains.specs.BestLaws.{first_of_zero}
-use Rattle.chains.specs.Weight.{weight, total_chain_of}
-use Rattle.chains.specs.Members.{member_words}
-use Rattle.chains.specs.RoundTrip.{word_chained}
-use Rattle.chains.specs.Bounds.{letters_bound, parts_bound}
+use Rattle.chains.proofs.BestLaws.{first_of_zero}
+use Rattle.chains.proofs.Weight.{weight, total_chain_of}
+use Rattle.chains.proofs.Members.{member_words}
+use Rattle.chains.proofs.RoundTrip.{word_chained}
+use Rattle.chains.proofs.Bounds.{letters_bound, parts_bound}
 use Rattle.chains.specs.Keys.{key, in_grid, best_at, key_or, least_on, least_key}
-use Rattle.chains.specs.Leasts.{FirstLeast, first_member}
-use Rattle.chains.specs.Bests.{best_found}
-use Rattle.chains.specs.BestOfAll.{costs_of, up_to, least_keyed, key_price, keyed_is_best}
-use Rattle.chains.specs.PriceLaws.{price_fits}
+use Rattle.chains.proofs.Leasts.{FirstLeast, first_member}
+use Rattle.chains.proofs.Bests.{best_found}
+use Rattle.chains.proofs.BestOfAll.{costs_of, up_to, least_keyed, key_price, keyed_is_best}
+use Rattle.chains.proofs.PriceLaws.{price_fits}
 use Rattle.words.specs.Packed.{bits, rise, mark}
 use Rattle.grid.specs.Grid.{rest_at}
 use Rattle.grid.specs.Rests.{rest_origin}

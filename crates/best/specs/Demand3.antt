@@ -12,8 +12,9 @@ use Rattle.lent.specs.Lent.{filled, Enough}
 use Rattle.chains.specs.Chains.{Part}
 use Rattle.chains.specs.Listing.{position}
 use Rattle.chains.specs.Best.{Prices, price, Limits, cut, NoneFits, IsBest, best_chain}
-use Rattle.chains.specs.BestLaws.{first_unique, best_chain_lem, best_none, first_of_zero, first_cut}
-use Rattle.chains.specs.OnePrice.{earlier_price, s_for_both, one_price, one_price_chosen}
+use Rattle.chains.proofs.BestLaws.{first_unique, best_chain_lem, best_none, first_of_zero, first_cut}
+use Rattle.chains.specs.OnePrice.{earlier_price, s_for_both}
+use Rattle.chains.proofs.OnePrice.{one_price, one_price_chosen}
 use Rattle.parts.specs.Parts.{part_number}
 use Rattle.ranking.specs.Services.{Outcome, refused, gives, lent, places_left}
 use Rattle.ranking.specs.RoundTrips.{lent_all}

@@ -7,7 +7,7 @@
 -- turns of a row. Definitions only; the laws are in KeyTableLaws.
 use Rattle.std.specs.Prelude.{◌≡◌, ℕ, zero, suc, ◌+◌, ◌-◌, ◌*◌, ◌/◌, ◌%◌, ◌^◌, ◌<◌, ◌≤◌, min, Bool, true, false, cond, List, [], ◌∷◌, nat_lt, slice_index}
 use Rattle.chains.specs.Best.{Prices}
-use Rattle.chains.specs.Members.{rises}
+use Rattle.chains.proofs.Members.{rises}
 use Rattle.chains.specs.Keys.{Costs, least_key}
 use Rattle.grid.specs.Grid.{Meaning}
 

@@ -11,10 +11,10 @@ use native.Mathlib.Omega.{arith}
 use Rattle.chains.specs.Chains.{Part}
 use Rattle.chains.specs.Words.{right, up}
 use Rattle.chains.specs.Best.{Prices}
-use Rattle.chains.specs.Members.{rises}
+use Rattle.chains.proofs.Members.{rises}
 use Rattle.chains.specs.Keys.{inside}
-use Rattle.chains.specs.Bests.{key_a, inside_bounds, least_step, least_one, least_outside}
-use Rattle.chains.specs.BestOfAll.{letter_cost, costs_of}
+use Rattle.chains.proofs.Bests.{key_a, inside_bounds, least_step, least_one, least_outside}
+use Rattle.chains.proofs.BestOfAll.{letter_cost, costs_of}
 use Rattle.best.specs.KeyTable.{part_weight, no_key, letter_costs, letter_by, costs_by, Low, Cheap}
 use Rattle.best.specs.KeyTable.{key_cell, third_key, half_key, turn_at, pick, less}
 

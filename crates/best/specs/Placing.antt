@@ -9,7 +9,7 @@ use Rattle.std.proofs.Math.Nat.{sub-zero}
 use Rattle.std.proofs.Math.ListN.{length-map}
 use Rattle.chains.specs.Chains.{Part, ChainOf}
 use Rattle.chains.specs.Best.{Prices, price, Limits}
-use Rattle.chains.specs.Bounds.{parts_bound}
+use Rattle.chains.proofs.Bounds.{parts_bound}
 use Rattle.lent.specs.Lent.{OnlyFirst, scratch_size, little_scratch, scratch_left, too_little, Enough}
 use Rattle.lent.specs.LentLaws.{length_filled, used_filled, used_left, enough_zeroed}
 use Rattle.parts.specs.Parts.{part_number}

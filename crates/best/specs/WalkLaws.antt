@@ -15,10 +15,10 @@ use Rattle.std.proofs.lemmas.Nat.{mod-pow-add}
 use borrow.Author.Tests.{eqb-true, eqb-false, ne_eqb}
 use Rattle.chains.specs.Chains.{Part}
 use Rattle.chains.specs.Words.{Word, origin, right, up}
-use Rattle.chains.specs.Members.{rises}
+use Rattle.chains.proofs.Members.{rises}
 use Rattle.chains.specs.Keys.{inside}
-use Rattle.chains.specs.Carried.{lead, lead_word, cond_word, rises_low, third_left}
-use Rattle.chains.specs.Bests.{key_a, best_one, take_a, take_b, least_told}
+use Rattle.chains.proofs.Carried.{lead, lead_word, cond_word, rises_low, third_left}
+use Rattle.chains.proofs.Bests.{key_a, best_one, take_a, take_b, least_told}
 use Rattle.grid.specs.Grid.{rest_at, rests_place}
 use Rattle.grid.specs.Masks.{ones_of}
 use Rattle.grid.specs.MaskLaws.{ones_bit}

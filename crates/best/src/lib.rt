@@ -1,5 +1,7 @@
 // The best chain within limits: the fewest parts, then the lowest price, then the earliest position. Choosing it and telling its
 // position are two services; the second is `ranking::place_record`.
+#![tactic(auto)]
+
 mod choosing;
 mod keys;
 mod walk;

@@ -1,14 +1,7 @@
--- One price for every addition: document 02, T-04. Where s2 and s3 are the same, a chain's price is the one that document 01 gave
--- it before (`one_price`), and so a chain is best by the one exactly if it is best by the other (`best_by_one_price`).
---
--- First the earlier price, a definition for these laws alone; then the laws, the best chain as a function last (`one_price_chosen`).
-use Rattle.std.specs.Prelude.{◌≡◌, refl, ◌↔◌, Bool, true, false, cond, List, [], ◌∷◌, ℕ, ◌+◌, ◌*◌, ltb, length}
-use Rattle.std.proofs.Common.{sym, mul-suc, arith}
-use Rattle.std.proofs.Math.Option.{Option, none, some}
-use Rattle.chains.specs.Chains.{Part, Chained, ChainOf}
-use Rattle.chains.specs.Best.{Prices, price, Limits, Ahead, IsBest, best_chain}
-use Rattle.chains.specs.BestLaws.{Answers, answers, is_first}
-use Rattle.chains.specs.PriceLaws.{by_neighbours, price_by_neighbours}
+-- The price that document 01 gave a chain, and prices with the same for every addition. The laws are in proofs/OnePrice.antt.
+use Rattle.std.specs.Prelude.{List, [], ◌∷◌, ℕ, ◌+◌, ◌*◌, length}
+use Rattle.chains.specs.Chains.{Part}
+use Rattle.chains.specs.Best.{Prices}
 
 -- Document 01's price of a chain: d × a + t × b + s × (k − 1), where 2^a × 3^b is the largest part and k the number of parts. The
 -- empty chain costs 0.
@@ -19,50 +12,3 @@ earlier_price d t s (p ∷ c) = d * p.a + t * p.b + s * length c
 -- The prices with s for every addition.
 abbrev pub s_for_both : ℕ → ℕ → ℕ → Prices
 s_for_both d t s = record { d = d; t = t; s2 = s; s3 = s }
-
-same_each : (d t s : ℕ) (p : Part) (c : List Part) → by_neighbours (s_for_both d t s) p c ≡ s * length c
-unfolding by_neighbours
-same_each d t s p [] = omega arith
-same_each d t s p (q ∷ c) = omega (arith, go (ltb q.b p.b), same_each d t s q c, mul-suc s (length c))
-  where
-    go : (x : Bool) → cond x s s ≡ s
-    go true = refl
-    go false = refl
-
-pub one_price : (d t s : ℕ) (c : List Part) → Chained c → price (s_for_both d t s) c ≡ earlier_price d t s c
-unfolding price earlier_price
-one_price d t s [] h = refl
-one_price d t s (p ∷ c) h = omega (arith, price_by_neighbours (s_for_both d t s) p c h, same_each d t s p c)
-
--- ---- costs that agree on the chains of n
-
--- A chain that is best by the one is best by the other.
-same_best : (n : ℕ) (lim : Limits) (f g : List Part → ℕ) → ((c : List Part) → ChainOf n c → f c ≡ g c)
-    → (c : List Part) → IsBest n lim f c → IsBest n lim g c
-unfolding Ahead
-same_best n lim f g same c b =
-    record {
-      chain = b.chain;
-      within = b.within;
-      first = λ c' h w d. rw (← same c b.chain, ← same c' h) (b.first c' h w d);
-    }
-
--- ---- the best chain
-
-module _ (n : ℕ) (lim : Limits) (d t s : ℕ) where
-  same : (c : List Part) → ChainOf n c → price (s_for_both d t s) c ≡ earlier_price d t s c
-  same c h = one_price d t s c h.chained
-
-  there : (c : List Part) → IsBest n lim (price (s_for_both d t s)) c → IsBest n lim (earlier_price d t s) c
-  there = same_best n lim (price (s_for_both d t s)) (earlier_price d t s) same
-
-  pub best_by_one_price : (c : List Part) → IsBest n lim (price (s_for_both d t s)) c ↔ IsBest n lim (earlier_price d t s) c
-  best_by_one_price c =
-      (there c, same_best n lim (earlier_price d t s) (price (s_for_both d t s)) (λ c' h. sym (same c' h)) c)
-
-  pub one_price_chosen : best_chain n lim (price (s_for_both d t s)) ≡ best_chain n lim (earlier_price d t s)
-  one_price_chosen = go (best_chain n lim (price (s_for_both d t s))) (answers n lim length (price (s_for_both d t s)))
-    where
-      go : (o : Option (List Part)) → Answers n lim length (price (s_for_both d t s)) o → o ≡ best_chain n lim (earlier_price d t s)
-      go none f = is_first n lim length (earlier_price d t s) none f
-      go (some c) b = is_first n lim length (earlier_price d t s) (some c) (there c b)

@@ -4,14 +4,14 @@
 use Rattle.std.proofs.Math.Path.{◌≡◌}
 use Rattle.std.specs.Prelude.{refl, ◌↔◌, ◌⊎◌, Bool, cond, ◌&&◌, ℕ}
 use Rattle.std.proofs.Common.{inl, inr, ⊎_elim}
-use Rattle.std.proofs.Math.Logic.{Iff·and, Iff·rfl, Iff·trans}
+use Rattle.std.proofs.Math.Logic.Iff
 use Rattle.std.proofs.Math.Bool.{true, false}
 use native.Mathlib.Omega.{arith}
 use Rattle.std.proofs.Math.Dec.{T}
 use Rattle.chains.specs.Words.{Word, Good, reads}
 use Rattle.chains.specs.Listing.{before}
-use Rattle.chains.specs.Readers.{readers_good}
-use Rattle.chains.specs.Order.{before_irrefl, before_trans, before_cases}
+use Rattle.chains.proofs.Readers.{readers_good}
+use Rattle.chains.proofs.Order.{before_irrefl, before_trans, before_cases}
 use Rattle.comparing.specs.Answers.{order_of, compared_of}
 use Rattle.words.specs.TestLaws.{is_first, is_second, in_first, in_second, one_of_both, both_tests}
 use Rattle.comparing.specs.declared.Compared.{Compared}
@@ -49,8 +49,8 @@ module _ (u v : Word) where
   as_ordered : (x : Compared) → ¬ (Refused 7 ≡ x) → (compared_of u v ≡ x) ↔ ((Good u × Good v) × (order_of u v ≡ x))
   unfolding compared_of
   as_ordered x n =
-      Iff·trans (in_first (reads true u && reads true v) (order_of u v) (Refused 7) x n)
-      (Iff·and (Iff·trans (both_tests (reads true u) (reads true v)) (Iff·and (readers_good u) (readers_good v))) Iff·rfl)
+      Iff.trans (in_first (reads true u && reads true v) (order_of u v) (Refused 7) x n)
+      (Iff.and (Iff.trans (both_tests (reads true u) (reads true v)) (Iff.and (readers_good u) (readers_good v))) Iff.rfl)
 
   not_both : T (before u v) → T (before v u) → ⊥
   not_both g h = before_irrefl u (before_trans u v u g h)
@@ -58,8 +58,8 @@ module _ (u v : Word) where
   pub compared_earlier : (compared_of u v ≡ Earlier) ↔ ((Good u × Good v) × T (before u v))
   unfolding order_of
   compared_earlier =
-      Iff·trans (as_ordered Earlier (λ e. let z : ◌≡◌ {A = ℕ} 0 1 = cc in omega arith))
-      (Iff·and Iff·rfl (is_first (before u v) Earlier (cond (before v u) Later Same) (not_earlier (before v u))))
+      Iff.trans (as_ordered Earlier (λ e. let z : ◌≡◌ {A = ℕ} 0 1 = cc in omega arith))
+      (Iff.and Iff.rfl (is_first (before u v) Earlier (cond (before v u) Later Same) (not_earlier (before v u))))
     where
       not_earlier : (b : Bool) → ¬ (cond b Later Same ≡ Earlier)
       not_earlier true e = let z : ◌≡◌ {A = ℕ} 0 1 = cc in omega arith
@@ -68,23 +68,23 @@ module _ (u v : Word) where
   pub compared_later : (compared_of u v ≡ Later) ↔ ((Good u × Good v) × T (before v u))
   unfolding order_of
   compared_later =
-      Iff·trans (as_ordered Later (λ e. let z : ◌≡◌ {A = ℕ} 0 1 = cc in omega arith))
-      (Iff·and Iff·rfl
-      (Iff·trans
+      Iff.trans (as_ordered Later (λ e. let z : ◌≡◌ {A = ℕ} 0 1 = cc in omega arith))
+      (Iff.and Iff.rfl
+      (Iff.trans
       (in_second (before u v) Earlier (cond (before v u) Later Same) Later (λ e. let z : ◌≡◌ {A = ℕ} 0 1 = cc in omega arith))
-      (Iff·trans
-      (Iff·and Iff·rfl (is_first (before v u) Later Same (λ e. let z : ◌≡◌ {A = ℕ} 0 1 = cc in omega arith)))
+      (Iff.trans
+      (Iff.and Iff.rfl (is_first (before v u) Later Same (λ e. let z : ◌≡◌ {A = ℕ} 0 1 = cc in omega arith)))
       (λ h. h.1, λ h. (λ g. not_both g h, h)))))
 
   pub compared_same : (compared_of u v ≡ Same) ↔ ((Good u × Good v) × (u ≡ v))
   unfolding order_of
   compared_same =
-      Iff·trans (as_ordered Same (λ e. let z : ◌≡◌ {A = ℕ} 0 1 = cc in omega arith))
-      (Iff·and Iff·rfl
-      (Iff·trans
+      Iff.trans (as_ordered Same (λ e. let z : ◌≡◌ {A = ℕ} 0 1 = cc in omega arith))
+      (Iff.and Iff.rfl
+      (Iff.trans
       (in_second (before u v) Earlier (cond (before v u) Later Same) Same (λ e. let z : ◌≡◌ {A = ℕ} 0 1 = cc in omega arith))
-      (Iff·trans
-      (Iff·and Iff·rfl (is_second (before v u) Later Same (λ e. let z : ◌≡◌ {A = ℕ} 0 1 = cc in omega arith)))
+      (Iff.trans
+      (Iff.and Iff.rfl (is_second (before v u) Later Same (λ e. let z : ◌≡◌ {A = ℕ} 0 1 = cc in omega arith)))
       (λ h. one (before_cases u v) h, λ e. rw e (before_irrefl v, before_irrefl v)))))
     where
       one : T (before u v) ⊎ ((u ≡ v) ⊎ T (before v u)) → (¬ T (before u v)) × (¬ T (before v u)) → u ≡ v

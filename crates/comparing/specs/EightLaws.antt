@@ -12,7 +12,7 @@ use Rattle.std.proofs.Math.Decide.{dec_lt}
 use Rattle.std.proofs.lemmas.Bool.{eqb-false}
 use Rattle.chains.specs.Words.{Word}
 use Rattle.chains.specs.Listing.{before}
-use Rattle.chains.specs.Order.{before_cases}
+use Rattle.chains.proofs.Order.{before_cases}
 use Rattle.comparing.specs.Answers.{order_of}
 use Rattle.comparing.specs.Eights.{Bytes, high_first, EightOf}
 

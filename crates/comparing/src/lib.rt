@@ -1,4 +1,6 @@
 // How two path words stand to each other in the dictionary.
+#![tactic(auto)]
+
 mod eights;
 mod judging;
 mod order;

@@ -13,8 +13,8 @@ use Rattle.std.specs.Int.Count.{ones-ones, ones-le}
 use Rattle.std.proofs.Math.Pow.{pow_pos}
 use Rattle.chains.specs.Words.{Word}
 use Rattle.chains.specs.Listing.{list_of, count_before, ways}
-use Rattle.chains.specs.Counts.{count_fits}
-use Rattle.chains.specs.Positions.{word_at_position, position_rise_a, position_rise_b}
+use Rattle.chains.proofs.Counts.{count_fits}
+use Rattle.chains.proofs.Positions.{word_at_position, position_rise_a, position_rise_b}
 use Rattle.words.specs.Packed.{bits, rise}
 use Rattle.grid.specs.Grid.{rest_at, row_place}
 use Rattle.grid.specs.Rests.{rest_origin, rest_right, rest_up, point_bounds}

@@ -5,7 +5,7 @@
 use Rattle.std.specs.Prelude.{◌≡◌, ℕ, zero, suc, ◌+◌, ◌-◌, ◌*◌, ◌/◌, ◌%◌, ◌<◌, ◌≤◌, max, Bool, true, false, List, slice_index, refl}
 use Rattle.std.proofs.Common.{◌∙◌, arith}
 use Rattle.chains.specs.Listing.{ways, count}
-use Rattle.chains.specs.Counts.{
+use Rattle.chains.proofs.Counts.{
   count_ways,
   ways_rem_0_free,
   ways_rem_0_after_a,

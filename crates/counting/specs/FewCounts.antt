@@ -1,9 +1,9 @@
 -- For which numbers the table count answers 1 and 2, where it serves: document 02, T-11.
 -- They are those that are named for one chain and for two (chains, Few).
 use Rattle.std.specs.Prelude.{◌≡◌, ℕ, ◌≤◌, ◌↔◌, List, length}
-use Rattle.std.proofs.Math.Logic.{Iff·trans}
+use Rattle.std.proofs.Math.Logic.Iff
 use Rattle.chains.specs.Few.{NamedForOne, NamedForTwo}
-use Rattle.chains.specs.FewLaws.{one_chain, two_chains}
+use Rattle.chains.proofs.FewLaws.{one_chain, two_chains}
 use Rattle.lent.specs.Lent.{scratch_size}
 use Rattle.counting.specs.declared.Counted.TheVariants.{Count}
 use Rattle.counting.specs.TableCount.{counted_of}
@@ -11,7 +11,7 @@ use Rattle.counting.specs.TableLaws.{counted_is}
 
 module _ (n : ℕ) (scratch : List ℕ) (enough : scratch_size ≤ length scratch) where
   pub table_one : (counted_of n scratch ≡ Count 1) ↔ NamedForOne n
-  table_one = Iff·trans (counted_is n 1 scratch enough) (one_chain n)
+  table_one = Iff.trans (counted_is n 1 scratch enough) (one_chain n)
 
   pub table_two : (counted_of n scratch ≡ Count 2) ↔ NamedForTwo n
-  table_two = Iff·trans (counted_is n 2 scratch enough) (two_chains n)
+  table_two = Iff.trans (counted_is n 2 scratch enough) (two_chains n)

@@ -10,8 +10,8 @@ use native.Mathlib.Omega.{arith}
 use Rattle.std.proofs.lemmas.Nat.{shr_le}
 use Rattle.chains.specs.Words.{Word}
 use Rattle.chains.specs.Listing.{words_in, at_rest, words_at, list_of, count, ways, one_if}
-use Rattle.chains.specs.Counts.{count_ways, ways_rem_0_free, ways_rem_0_after_a, ways_rem_1, ways_rem_2}
-use Rattle.chains.specs.Positions.{word_rise_a, word_rise_b}
+use Rattle.chains.proofs.Counts.{count_ways, ways_rem_0_free, ways_rem_0_after_a, ways_rem_1, ways_rem_2}
+use Rattle.chains.proofs.Positions.{word_rise_a, word_rise_b}
 use Rattle.words.specs.Packed.{bits, rise, mark}
 use Rattle.grid.specs.Grid.{rest_at}
 use Rattle.grid.specs.Rests.{rest_origin, rest_right, rest_up, point_bounds}

@@ -7,10 +7,10 @@ use mathlib.Core.List.{Memᴰ}
 use Rattle.std.specs.Float.Ieee.Fits.{and_r}
 use Rattle.chains.specs.Words.{Word, Good, some_left, reads}
 use Rattle.chains.specs.Listing.{words_in, at_rest, by_third, words_at, list_of, count_before, ways}
-use Rattle.chains.specs.Weight.{weight}
-use Rattle.chains.specs.Counts.{ways_at_0_free, ways_at_0_after_a, ways_at_most}
-use Rattle.chains.specs.Members.{member_words, list_holds}
-use Rattle.chains.specs.Positions.{words_at_position}
+use Rattle.chains.proofs.Weight.{weight}
+use Rattle.chains.proofs.Counts.{ways_at_0_free, ways_at_0_after_a, ways_at_most}
+use Rattle.chains.proofs.Members.{member_words, list_holds}
+use Rattle.chains.proofs.Positions.{words_at_position}
 use Rattle.words.specs.Packed.{bits}
 use Rattle.words.specs.PackedLaws.{bits_append}
 

@@ -5,8 +5,8 @@ use mathlib.Core.List.{Memᴰ}
 use Rattle.std.proofs.lemmas.Bool.{lt-leb}
 use Rattle.chains.specs.Words.{Word}
 use Rattle.chains.specs.Listing.{list_of, count, count_before}
-use Rattle.chains.specs.Counts.{count_fits}
-use Rattle.chains.specs.Positions.{word_at_position}
+use Rattle.chains.proofs.Counts.{count_fits}
+use Rattle.chains.proofs.Positions.{word_at_position}
 use Rattle.lent.specs.Lent.{scratch_size}
 use Rattle.lent.specs.LentLaws.{scratch_little, scratch_enough}
 use Rattle.words.specs.Packed.{bits, rise, mark}

@@ -2,6 +2,8 @@
 //
 // The plain count works by the recursion of document 01, 'Counting by the remainder', without scratch. The others fill the counts at
 // the points of the walk, row by row, in the scratch that they are lent.
+#![tactic(auto)]
+
 mod back;
 mod forward;
 mod rows;

@@ -1,5 +1,7 @@
 // Hexadecimal digits and numbers on slices of characters: document 01, 'Frames', and document 02, T-01. Every function here takes
 // any input.
+#![tactic(auto)]
+
 ghost use Rattle.std.specs.Prelude.{◌≡◌, ◌%◌, ◌^◌};
 ghost use Rattle.std.proofs.Math.Option.{get_or};
 ghost use Rattle.digits.specs.Digits.{digit_value, is_digit, value_or0, all_digits, number_of, digit_of, put_digits};

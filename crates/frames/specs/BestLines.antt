@@ -9,7 +9,7 @@ use Rattle.std.proofs.Common.{◌∙◌, arith}
 use Rattle.chains.specs.Chains.{Part}
 use Rattle.chains.specs.Listing.{position}
 use Rattle.chains.specs.Best.{price, NoneFits, IsBest}
-use Rattle.chains.specs.PriceLaws.{price_fits}
+use Rattle.chains.proofs.PriceLaws.{price_fits}
 use Rattle.parts.specs.Parts.{part_number}
 use Rattle.ranking.specs.Services.{Outcome, refused, gives}
 use Rattle.best.specs.Chosen.{best_outcome}

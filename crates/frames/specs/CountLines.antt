@@ -1,9 +1,9 @@
 -- Fit lines of kinds 01 and 03 and the count: what a line of kind 01 tells, and which position a line of kind 03 is refused for.
 use Rattle.std.specs.Prelude.{◌≡◌, ◌↔◌, List, ℕ, ◌^◌, ◌≤◌, ◌<◌}
 use Rattle.std.proofs.Common.{ap, ◌∙◌}
-use Rattle.std.proofs.Math.Logic.{Iff·trans}
+use Rattle.std.proofs.Math.Logic.Iff
 use Rattle.chains.specs.Listing.{count}
-use Rattle.chains.specs.Counts.{count_fits}
+use Rattle.chains.proofs.Counts.{count_fits}
 use Rattle.ranking.specs.Services.{at_position}
 use Rattle.ranking.specs.Outcomes.{at_refused}
 use Rattle.lines.specs.Kinds.{count_line, at_line}
@@ -33,4 +33,4 @@ unfolding served
 past_told line f =
     let n = field line 1 8 in
     let i = field line 9 8 in
-    rw (reply_fit line at_line f) (Iff·trans (outcome_refused (at_position n i) 6) (at_refused n i))
+    rw (reply_fit line at_line f) (Iff.trans (outcome_refused (at_position n i) 6) (at_refused n i))

@@ -17,9 +17,9 @@ use Rattle.std.proofs.Math.Seq.{drop-append-add}
 use Rattle.chains.specs.Chains.{Part, ChainOf}
 use Rattle.chains.specs.Words.{Word, word_of, Good, Spelled, reads}
 use Rattle.chains.specs.Listing.{count, position}
-use Rattle.chains.specs.Readers.{readers_good}
-use Rattle.chains.specs.RoundTrip.{word_reads}
-use Rattle.chains.specs.Bounds.{word_bound, parts_bound}
+use Rattle.chains.proofs.Readers.{readers_good}
+use Rattle.chains.proofs.RoundTrip.{word_reads}
+use Rattle.chains.proofs.Bounds.{word_bound, parts_bound}
 use Rattle.parts.specs.Parts.{part_number, largest_part, largest_of}
 use Rattle.parts.specs.Largest.{same_part_lem}
 use Rattle.ranking.specs.Services.{Outcome, refused, gives, at_position, of_word, next_of, of_record}

@@ -6,7 +6,7 @@
 use Rattle.std.proofs.Math.Path.{◌≡◌, refl, sym}
 use Rattle.std.proofs.Common.{ap, ◌∙◌, inl, inr, ⊎_elim, arith, eqb-true}
 use Rattle.std.specs.Prelude.{◌↔◌, ◌⊎◌, Bool, cond, List, [], map, ℕ, ◌+◌, ◌*◌, ◌^◌, ◌≤◌, ◌<◌, eqb, length}
-use Rattle.std.proofs.Math.Logic.{Iff·rfl, Iff·and, Iff·trans}
+use Rattle.std.proofs.Math.Logic.Iff
 use Rattle.std.proofs.Math.Bool.{true, false}
 use Rattle.std.proofs.Math.Option.{some}
 use Rattle.std.proofs.lemmas.Bool.{eqb-false}
@@ -213,7 +213,7 @@ module _ (line : List ℕ) (f : shape_of line ≡ fit record_line) where
   reply = reply_fit line record_line f
 
   pub record_served : (ds : List ℕ) → (reply_to line ≡ served_with ds) ↔ (LargestTold record_line line × RecordReply numbers ds)
-  record_served ds = Iff·trans (line_served record_line line plain reply ds) (Iff·and Iff·rfl (numbers_served numbers ds))
+  record_served ds = Iff.trans (line_served record_line line plain reply ds) (Iff.and Iff.rfl (numbers_served numbers ds))
 
   only : (r : ℕ) → plain ≡ refused_as r → (r ≡ 8) ⊎ ((r ≡ 9) ⊎ (r ≡ 10))
   only r e = (record_refusals numbers).no_other r ((outcome_refused (of_record numbers) r).0 e)
@@ -229,7 +229,7 @@ module _ (line : List ℕ) (f : shape_of line ≡ fit record_line) where
   )
 
   before : (r : ℕ) → r < 15 → {P : Type 0} → (of_record numbers ≡ refused r) ↔ P → (reply_to line ≡ refused_as r) ↔ P
-  before r h p = Iff·trans (line_before record_line line plain reply r h) (Iff·trans (outcome_refused (of_record numbers) r) p)
+  before r h p = Iff.trans (line_before record_line line plain reply r h) (Iff.trans (outcome_refused (of_record numbers) r) p)
 
   pub record_refused : RecordLineRefusals numbers (LargestTold record_line line) (λ r. reply_to line ≡ refused_as r)
   record_refused =
@@ -238,8 +238,8 @@ module _ (line : List ℕ) (f : shape_of line ≡ fit record_line) where
         refusal_8 = before 8 (omega arith) read.refusal_8;
         refusal_9 = before 9 (omega arith) read.refusal_9;
         refusal_10 = before 10 (omega arith) read.refusal_10;
-        refusal_16 = Iff·trans (line_sixteen record_line line plain reply (none_else 16 (omega arith)))
-            (Iff·and named Iff·rfl);
+        refusal_16 = Iff.trans (line_sixteen record_line line plain reply (none_else 16 (omega arith)))
+            (Iff.and named Iff.rfl);
         no_other = λ r e.
             ⊎_elim (λ (g : plain ≡ refused_as r). inr (only r g)) (λ (g : r ≡ 16). inl g) (line_only record_line line plain reply r e);
       }

@@ -5,7 +5,7 @@
 use Rattle.std.specs.Prelude.{◌≡◌, ◌↔◌, ◌⊎◌, Bool, true, false, not, cond, List, [], ◌∷◌, ℕ, ◌*◌, ◌≤◌, T, leb, eqb, length}
 use Rattle.std.proofs.Math.Path.{refl, ap}
 use Rattle.std.proofs.Common.{subst, ◌∙◌, inl, inr, ⊎_elim, leb-true}
-use Rattle.std.proofs.Math.Logic.{Iff·trans}
+use Rattle.std.proofs.Math.Logic.Iff
 use Rattle.std.proofs.Math.Option.{Option, none, some}
 use Rattle.std.proofs.lemmas.Bool.{not-true}
 use Rattle.lent.specs.Lent.{filled}
@@ -105,11 +105,11 @@ module _ (r : ℕ) (never : passes (λ (k : Kind). not (among r (refusals_of k))
 -- So a line gets 3 exactly if its length is proper and some character is no digit.
 pub reply_no_digit : (line : List ℕ) → (reply_to line ≡ refused_as 3) ↔ (Proper (length line) × (all_digits line ≡ false))
 unfolding reply_row_of among passes kinds
-reply_no_digit line = Iff·trans (by_shape 3 refl line) (no_digit line)
+reply_no_digit line = Iff.trans (by_shape 3 refl line) (no_digit line)
 
 -- It gets 4 exactly if its length is proper, its characters are digits and its first byte is that of no kind. So 4 does not cover
 -- 07 to 09, nor a kind that is added to `kinds`.
 pub reply_no_kind : (line : List ℕ)
     → (reply_to line ≡ refused_as 4) ↔ (Proper (length line) × (all_digits line ≡ true) × (kind_of (field line 0 1) ≡ none))
 unfolding reply_row_of among passes kinds
-reply_no_kind line = Iff·trans (by_shape 4 refl line) (no_kind line)
+reply_no_kind line = Iff.trans (by_shape 4 refl line) (no_kind line)

@@ -9,8 +9,8 @@ use Rattle.std.proofs.Common.{ap, ◌∙◌, arith}
 use Rattle.std.proofs.Math.Option.{some}
 use Rattle.chains.specs.Chains.{Part, ChainOf}
 use Rattle.chains.specs.Listing.{position}
-use Rattle.chains.specs.Counts.{count_fits}
-use Rattle.chains.specs.PositionsOfChains.{at_position_lem}
+use Rattle.chains.proofs.Counts.{count_fits}
+use Rattle.chains.proofs.PositionsOfChains.{at_position_lem}
 use Rattle.parts.specs.Parts.{part_number, largest_part}
 use Rattle.parts.specs.Largest.{largest_of_chain}
 use Rattle.words.specs.RecordLaws.{InTable, judged_sum}

@@ -6,7 +6,7 @@
 use Rattle.std.specs.Prelude.{◌≡◌, ◌↔◌, ◌⊎◌, ℕ, ◌*◌, ◌%◌, ◌^◌, ◌≤◌, ◌<◌, length}
 use Rattle.std.proofs.Math.Path.{refl}
 use Rattle.std.proofs.Common.{ap, ◌∙◌, inl, inr, ⊎_elim, mod-lt, arith, length-append}
-use Rattle.std.proofs.Math.Logic.{Iff·rfl, Iff·and, Iff·trans}
+use Rattle.std.proofs.Math.Logic.Iff
 use Rattle.std.proofs.Math.Bool.{true}
 use mathlib.Core.List.{List, [], map, ◌++◌, append_assoc}
 use Rattle.chains.specs.Chains.{Part, Chained, total, ChainOf}
@@ -104,7 +104,7 @@ module _ (line : List ℕ) (f : shape_of line ≡ fit run_line) where
           (told_residue (ran_of numbers m x) ds).1 (r, (ran_residue numbers m x r).1 (t.able, (t.n, t.burned, refl)), t.digits)
 
   pub run_served : (ds : List ℕ) → (reply_to line ≡ served_with ds) ↔ (LargestTold run_line line × RunReply numbers m x ds)
-  run_served ds = Iff·trans (line_served run_line line plain reply ds) (Iff·and Iff·rfl (run_told ds))
+  run_served ds = Iff.trans (line_served run_line line plain reply ds) (Iff.and Iff.rfl (run_told ds))
 
   only : (r : ℕ) → plain ≡ refused_as r → (r ≡ 13) ⊎ ((r ≡ 14) ⊎ ((r ≡ 8) ⊎ ((r ≡ 9) ⊎ (r ≡ 10))))
   only r e = (run_refusals numbers m x).no_other r ((told_refused (ran_of numbers m x) r).0 e)
@@ -123,7 +123,7 @@ module _ (line : List ℕ) (f : shape_of line ≡ fit run_line) where
   )
 
   before : (r : ℕ) → r < 15 → {P : Type 0} → (ran_of numbers m x ≡ ran.Refused r) ↔ P → (reply_to line ≡ refused_as r) ↔ P
-  before r h p = Iff·trans (line_before run_line line plain reply r h) (Iff·trans (told_refused (ran_of numbers m x) r) p)
+  before r h p = Iff.trans (line_before run_line line plain reply r h) (Iff.trans (told_refused (ran_of numbers m x) r) p)
 
   pub run_refused : RunLineRefusals numbers m x (LargestTold run_line line) (λ r. reply_to line ≡ refused_as r)
   run_refused =
@@ -134,8 +134,8 @@ module _ (line : List ℕ) (f : shape_of line ≡ fit run_line) where
         refusal_8 = before 8 (omega arith) run.refusal_8;
         refusal_9 = before 9 (omega arith) run.refusal_9;
         refusal_10 = before 10 (omega arith) run.refusal_10;
-        refusal_16 = Iff·trans (line_sixteen run_line line plain reply (none_else 16 (omega arith)))
-            (Iff·trans (Iff·and named Iff·rfl) (λ h. (h.0.0, (h.0.1, h.1)), λ h. ((h.0, h.1.0), h.1.1)));
+        refusal_16 = Iff.trans (line_sixteen run_line line plain reply (none_else 16 (omega arith)))
+            (Iff.trans (Iff.and named Iff.rfl) (λ h. (h.0.0, (h.0.1, h.1)), λ h. ((h.0, h.1.0), h.1.1)));
         no_other = λ r e.
             ⊎_elim (λ (g : plain ≡ refused_as r). inr (only r g)) (λ (g : r ≡ 16). inl g) (line_only run_line line plain reply r e);
       }

@@ -11,7 +11,7 @@ use Rattle.std.proofs.lemmas.List.{length-map}
 use Rattle.chains.specs.Chains.{Part, ChainOf}
 use Rattle.chains.specs.Listing.{count, position}
 use Rattle.chains.specs.Best.{Prices, Limits, price, best_chain}
-use Rattle.chains.specs.Bounds.{parts_bound}
+use Rattle.chains.proofs.Bounds.{parts_bound}
 use Rattle.parts.specs.Parts.{part_number}
 use Rattle.ranking.specs.Services.{Outcome, refused, gives, at_position, of_word, next_of, of_record}
 use Rattle.ranking.specs.Outcomes.{standing_refused, at_gives, of_gives, next_gives, record_gives}

@@ -8,13 +8,14 @@
 use Rattle.std.proofs.Math.Path.{◌≡◌, refl, sym, ap}
 use Rattle.std.proofs.Common.{◌∙◌, inl, inr, arith}
 use Rattle.std.specs.Prelude.{◌↔◌, ◌⊎◌, ℕ, zero, suc, ◌^◌, ◌≤◌, ◌<◌, length}
-use Rattle.std.proofs.Math.Logic.{⊎_elim, Iff·rfl, Iff·and, Iff·trans}
+use Rattle.std.proofs.Math.Logic.{⊎_elim}
+use Rattle.std.proofs.Math.Logic.Iff
 use mathlib.Core.List.{List, [], map, append-nil}
 use Rattle.std.proofs.Math.Option.{some}
 use Rattle.chains.specs.Chains.{Part, Chained, total, ChainOf}
 use Rattle.chains.specs.Words.{Word, word_of}
 use Rattle.chains.specs.Listing.{position}
-use Rattle.chains.specs.Bounds.{chain_of_0}
+use Rattle.chains.proofs.Bounds.{chain_of_0}
 use Rattle.parts.specs.Parts.{part_number}
 use Rattle.words.specs.Records.{record_parts, judged_of}
 use Rattle.words.specs.RecordLaws.{in_table, judged_sum}
@@ -119,11 +120,11 @@ module _ (line : List ℕ) (f : shape_of line ≡ fit tree_line) where
   tree_reply = reply_fit line tree_line f
 
   pub tree_served : (ds : List ℕ) → (reply_to line ≡ served_with ds) ↔ TreeReply (items_in tree_line line) ds
-  tree_served ds = Iff·trans ((λ e. sym tree_reply ∙ e), λ e. tree_reply ∙ e) (word_served (items_in tree_line line) ds)
+  tree_served ds = Iff.trans ((λ e. sym tree_reply ∙ e), λ e. tree_reply ∙ e) (word_served (items_in tree_line line) ds)
 
   pub tree_refused : TreeRefusals (items_in tree_line line) (λ r. reply_to line ≡ refused_as r)
   tree_refused =
-      tree_lifted (λ r. Iff·trans ((λ e. sym tree_reply ∙ e), λ e. tree_reply ∙ e) (outcome_refused (of_tree (items_in tree_line line)) r))
+      tree_lifted (λ r. Iff.trans ((λ e. sym tree_reply ∙ e), λ e. tree_reply ∙ e) (outcome_refused (of_tree (items_in tree_line line)) r))
       (tree_refusals (items_in tree_line line))
 
 zero_or_more : (n : ℕ) → (n ≡ 0) ⊎ (1 ≤ n)
@@ -154,7 +155,7 @@ module _ (line : List ℕ) (f : shape_of line ≡ fit to_tree_line) where
 
   pub to_tree_served : (ds : List ℕ) → (reply_to line ≡ served_with ds) ↔ (LargestTold to_tree_line line × ToTreeReply numbers ds)
   to_tree_served ds =
-      Iff·trans (line_served to_tree_line line plain to_tree_reply ds) (Iff·and Iff·rfl (letters_served numbers ds))
+      Iff.trans (line_served to_tree_line line plain to_tree_reply ds) (Iff.and Iff.rfl (letters_served numbers ds))
 
   only : (r : ℕ) → plain ≡ refused_as r → (r ≡ 8) ⊎ ((r ≡ 9) ⊎ ((r ≡ 10) ⊎ (r ≡ 15)))
   only r e = (record_tree_refusals numbers).no_other r ((letters_refused numbers r).0 e)
@@ -190,7 +191,7 @@ module _ (line : List ℕ) (f : shape_of line ≡ fit to_tree_line) where
           (zero_or_more n)
 
   before : (r : ℕ) → r < 15 → {P : Type 0} → (record_tree numbers ≡ no_tree r) ↔ P → (reply_to line ≡ refused_as r) ↔ P
-  before r h p = Iff·trans (line_before to_tree_line line plain to_tree_reply r h) (Iff·trans (letters_refused numbers r) p)
+  before r h p = Iff.trans (line_before to_tree_line line plain to_tree_reply r h) (Iff.trans (letters_refused numbers r) p)
 
   pub to_tree_refused : ToTreeLineRefusals numbers (LargestTold to_tree_line line) (λ r. reply_to line ≡ refused_as r)
   to_tree_refused =
@@ -199,9 +200,9 @@ module _ (line : List ℕ) (f : shape_of line ≡ fit to_tree_line) where
         refusal_8 = before 8 (omega arith) tree.refusal_8;
         refusal_9 = before 9 (omega arith) tree.refusal_9;
         refusal_10 = before 10 (omega arith) tree.refusal_10;
-        refusal_16 = Iff·trans (line_sixteen to_tree_line line plain to_tree_reply not_16) (Iff·and named Iff·rfl);
-        refusal_15 = Iff·trans (line_fifteen to_tree_line line plain to_tree_reply)
-            (Iff·and Iff·rfl (Iff·trans (letters_refused numbers 15) tree.refusal_15));
+        refusal_16 = Iff.trans (line_sixteen to_tree_line line plain to_tree_reply not_16) (Iff.and named Iff.rfl);
+        refusal_15 = Iff.trans (line_fifteen to_tree_line line plain to_tree_reply)
+            (Iff.and Iff.rfl (Iff.trans (letters_refused numbers 15) tree.refusal_15));
         no_other = λ r e.
             ⊎_elim (λ (g : plain ≡ refused_as r). inr (only r g)) (λ (g : r ≡ 16). inl g)
             (line_only to_tree_line line plain to_tree_reply r e);

@@ -1,4 +1,6 @@
 // The reply to a line: document 01, 'Frames'.
+#![tactic(auto)]
+
 mod put;
 mod serve;
 mod tell;

@@ -9,7 +9,7 @@ use Rattle.std.proofs.Common.{sym, ap, ◌∙◌, div-one, le-div_iff_mul-le, lt
 use Rattle.std.proofs.Math.Nat.{div-div-eq-div-mul, div-eq_of_lt, div-eq_of_lt-le, one-le-pow, pow-succ'}
 use Rattle.chains.specs.Chains.{value}
 use Rattle.grid.specs.Grid.{rest_at, rests_of, live_rows}
-use Rattle.chains.specs.Bounds.{part_bounds}
+use Rattle.chains.proofs.Bounds.{part_bounds}
 
 pub half_of_rest : (m a : ℕ) → m / 2 ^ a / 2 ≡ m / 2 ^ suc a
 half_of_rest m a = shr-shr m a 1 ∙ rw add-one

@@ -1,5 +1,7 @@
 // A table filled row by row: the rests of its rows, the live columns of a row, and the remainders by three in a row. Its theory is in
 // specs/.
+#![tactic(auto)]
+
 ghost use Rattle.std.specs.Prelude.{◌≡◌, ◌+◌, ◌*◌, ◌^◌, ◌≤◌, ◌<◌, length};
 ghost use Rattle.grid.specs.Masks.{ones_of, zeros_of, twos_of};
 ghost use Rattle.grid.specs.Grid.{rests_of, live_rows};

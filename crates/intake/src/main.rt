@@ -1,4 +1,6 @@
 // The program `intake`: frames from standard input, a reply a line to standard output.
+#![tactic(auto)]
+
 mod console;
 
 fn main() {

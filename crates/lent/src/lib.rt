@@ -1,4 +1,6 @@
 // Zeroing lent memory, at each width that the services are lent: the scratch, the places for part numbers, letters and digits.
+#![tactic(auto)]
+
 ghost use Rattle.std.specs.Prelude.{◌≡◌, length};
 ghost use Rattle.lent.specs.Lent.{zeros, fewer, memory_left, little_scratch, scratch_left};
 

@@ -8,9 +8,9 @@
 -- are in CountCells, KeyLaws and KeyCells.
 use Rattle.std.specs.Prelude.{Bool, true, false, List, [], ◌∷◌, ℕ, suc, ◌+◌, ◌*◌, ◌/◌, ◌≤◌, ◌<◌, length}
 use Rattle.chains.specs.Best.{Prices}
-use Rattle.chains.specs.Marks.{point}
+use Rattle.chains.proofs.Marks.{point}
 use Rattle.chains.specs.Keys.{limited_by, ways_up_to, least_on}
-use Rattle.chains.specs.BestOfAll.{price_weight}
+use Rattle.chains.proofs.BestOfAll.{price_weight}
 use Rattle.best.specs.KeyTable.{no_key, costs_by, Low}
 use Rattle.limited.specs.Services.{table_size}
 use Rattle.limited.specs.Table.{Block, Row, BlockLent, RowLent}

@@ -12,17 +12,17 @@ use Rattle.chains.specs.Chains.{Part, ChainOf}
 use Rattle.chains.specs.Words.{Word, chain_of, reads}
 use Rattle.chains.specs.Listing.{words_at}
 use Rattle.chains.specs.Best.{Prices, price, Limits, Within, cheapest_chain, count_up_to}
-use Rattle.chains.specs.BestLaws.{same_limits, first_of_zero}
-use Rattle.chains.specs.Weight.{weight}
-use Rattle.chains.specs.Members.{member_words}
-use Rattle.chains.specs.Bounds.{letters_bound, parts_bound}
-use Rattle.chains.specs.Marks.{point, taken}
+use Rattle.chains.proofs.BestLaws.{same_limits, first_of_zero}
+use Rattle.chains.proofs.Weight.{weight}
+use Rattle.chains.proofs.Members.{member_words}
+use Rattle.chains.proofs.Bounds.{letters_bound, parts_bound}
+use Rattle.chains.proofs.Marks.{point, taken}
 use Rattle.chains.specs.Keys.{key, parts, limited_by, ways_up_to, key_or, least_on}
-use Rattle.chains.specs.Leasts.{FirstLeast, first_member}
-use Rattle.chains.specs.Carried.{best_on_found}
-use Rattle.chains.specs.PartLimit.{parts_chain, limited_carried, count_up_to_ways, count_up_to_64, count_up_to_zero}
-use Rattle.chains.specs.BestOfAll.{letter_cost, costs_of, price_weight, key_price, listed_chain, keyed_is_cheapest}
-use Rattle.chains.specs.PriceLaws.{price_fits}
+use Rattle.chains.proofs.Leasts.{FirstLeast, first_member}
+use Rattle.chains.proofs.Carried.{best_on_found}
+use Rattle.chains.proofs.PartLimit.{parts_chain, limited_carried, count_up_to_ways, count_up_to_64, count_up_to_zero}
+use Rattle.chains.proofs.BestOfAll.{letter_cost, costs_of, price_weight, key_price, listed_chain, keyed_is_cheapest}
+use Rattle.chains.proofs.PriceLaws.{price_fits}
 use Rattle.words.specs.Packed.{bits, rise, mark}
 use Rattle.grid.specs.Rests.{rest_origin}
 use Rattle.best.specs.ChosenLaws.{zero_word}

@@ -8,8 +8,8 @@ use Rattle.std.proofs.Common.{◌∙◌}
 use Rattle.std.proofs.Math.Bool.{true, false}
 use Prim.Native.Nat.{ℕ, zero, suc, ◌+◌, ◌-◌, ◌/◌, ◌%◌, ◌≤◌, ◌<◌}
 use native.Mathlib.Omega.{arith}
-use Rattle.chains.specs.Members.{rises}
-use Rattle.chains.specs.PartLimit.{ways_up_to_step, ways_up_to_one, ways_up_to_none, ways_up_to_at_most}
+use Rattle.chains.proofs.Members.{rises}
+use Rattle.chains.proofs.PartLimit.{ways_up_to_step, ways_up_to_one, ways_up_to_none, ways_up_to_at_most}
 use Rattle.limited.specs.Table.{Block, Filled}
 use Rattle.limited.specs.TableLaws.{lent_still, read_right, read_above}
 use Rattle.limited.specs.Cells.{count_in, cell_in, CountAsked, BlockAsked}

@@ -8,7 +8,7 @@ use Rattle.std.proofs.Math.Path.{refl, sym}
 use Rattle.std.proofs.Common.{◌∙◌, arith}
 use Rattle.std.proofs.Math.Bool.{true, false}
 use Prim.Native.Nat.{ℕ, zero, suc, ◌+◌, ◌-◌, ◌*◌, ◌/◌, ◌%◌, ◌≤◌, ◌<◌, min}
-use Rattle.chains.specs.Members.{rises}
+use Rattle.chains.proofs.Members.{rises}
 use Rattle.best.specs.KeyTable.{no_key, letter_by}
 use Rattle.limited.specs.Table.{Block, Filled}
 use Rattle.limited.specs.TableLaws.{filled_as, lent_still, read_right, read_above}

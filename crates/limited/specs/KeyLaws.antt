@@ -9,12 +9,12 @@ use Rattle.std.proofs.Math.ListN.{get_or}
 use Rattle.std.proofs.Math.Facts.{and_yes, yes_and}
 use Rattle.chains.specs.Chains.{Part}
 use Rattle.chains.specs.Words.{right, up}
-use Rattle.chains.specs.Members.{rises}
-use Rattle.chains.specs.Marks.{point}
+use Rattle.chains.proofs.Members.{rises}
+use Rattle.chains.proofs.Marks.{point}
 use Rattle.chains.specs.Keys.{key, inside, in_grid, last_point, parts, limited_by, least_on}
-use Rattle.chains.specs.Carried.{rises_low, least_on_step, least_on_one, least_on_none, least_on_at_most}
-use Rattle.chains.specs.Bests.{inside_bounds, inside_first, next_right, next_up}
-use Rattle.chains.specs.PartLimit.{parts_pos, limited_carried, allowed_a, allowed_b}
+use Rattle.chains.proofs.Carried.{rises_low, least_on_step, least_on_one, least_on_none, least_on_at_most}
+use Rattle.chains.proofs.Bests.{inside_bounds, inside_first, next_right, next_up}
+use Rattle.chains.proofs.PartLimit.{parts_pos, limited_carried, allowed_a, allowed_b}
 use Rattle.best.specs.KeyTable.{no_key, letter_by, costs_by, Low}
 use Rattle.limited.specs.Cells.{key_in}
 

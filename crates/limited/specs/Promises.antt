@@ -12,8 +12,8 @@ use Rattle.lent.specs.Lent.{filled, scratch_size, Lends}
 use Rattle.lent.specs.LentLaws.{scratch_little, scratch_enough}
 use Rattle.chains.specs.Chains.{Part, ChainOf}
 use Rattle.chains.specs.Best.{Prices, additions, price, Limits, cut, Within, NoneFits, IsCheapest, cheapest_chain, count_up_to}
-use Rattle.chains.specs.BestLaws.{cheapest_chain_lem, cheapest_none, none_cheaper, same_cost, first_of_zero, first_cut}
-use Rattle.chains.specs.PartLimit.{count_up_to_all, count_up_to_zero, count_up_to_none}
+use Rattle.chains.proofs.BestLaws.{cheapest_chain_lem, cheapest_none, none_cheaper, same_cost, first_of_zero, first_cut}
+use Rattle.chains.proofs.PartLimit.{count_up_to_all, count_up_to_zero, count_up_to_none}
 use Rattle.parts.specs.Parts.{part_number}
 use Rattle.counting.specs.declared.Counted.TheVariants as counted
 use Rattle.counting.specs.TableCount.{counted_of}

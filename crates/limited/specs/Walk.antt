@@ -4,7 +4,7 @@
 use Rattle.std.specs.Prelude.{◌≡◌, Bool, true, false, List, ℕ, suc, ◌+◌, ◌-◌, ◌*◌, ◌/◌, ◌%◌, ◌^◌, ◌≤◌, ◌<◌, length}
 use Rattle.std.proofs.Math.Option.{Option, some}
 use Rattle.chains.specs.Words.{Word}
-use Rattle.chains.specs.Marks.{point}
+use Rattle.chains.proofs.Marks.{point}
 use Rattle.chains.specs.Keys.{limited_by, best_on}
 use Rattle.words.specs.Packed.{bits, rise, mark}
 use Rattle.grid.specs.Grid.{rest_at}

@@ -13,11 +13,11 @@ use Rattle.std.proofs.Math.Numerals.{add-one}
 use native.Mathlib.Omega.{arith}
 use Rattle.std.proofs.Math.ListN.{get_or}
 use Rattle.chains.specs.Words.{Word}
-use Rattle.chains.specs.Members.{rises}
-use Rattle.chains.specs.Marks.{point}
+use Rattle.chains.proofs.Members.{rises}
+use Rattle.chains.proofs.Marks.{point}
 use Rattle.chains.specs.Keys.{limited_by, best_on}
-use Rattle.chains.specs.Carried.{lead, lead_word, cond_word, rises_low, best_on_one, take_a_on, take_b_on, least_on_told}
-use Rattle.chains.specs.PartLimit.{limited_carried}
+use Rattle.chains.proofs.Carried.{lead, lead_word, cond_word, rises_low, best_on_one, take_a_on, take_b_on, least_on_told}
+use Rattle.chains.proofs.PartLimit.{limited_carried}
 use Rattle.words.specs.Packed.{bits, rise, mark}
 use Rattle.grid.specs.Grid.{rest_at}
 use Rattle.grid.specs.Rests.{rest_origin, rest_right, rest_up, point_bounds}

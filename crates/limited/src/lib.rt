@@ -2,6 +2,8 @@
 //
 // Both services fill a table in the memory that they are lent: a block of numbers at each of the 1,344 points, one for each reader and
 // each number of parts that are still allowed there (specs/Table.antt).
+#![tactic(auto)]
+
 mod choosing;
 mod table;
 mod walk;

@@ -1,6 +1,8 @@
 // A line of hexadecimal before it is served: its fields, its kind, whether it is refused by its shape, and its items. Document 01,
 // 'Frames' and 'What a refused line or call gets'. A line is its characters, without the byte 10. Every public function here takes
 // any input.
+#![tactic(auto)]
+
 ghost use Rattle.std.specs.Prelude.{◌≡◌, ◌++◌, ◌+◌, ◌*◌, ◌%◌, ◌^◌, ◌≤◌, ◌<◌, length, drop};
 ghost use Rattle.digits.specs.Digits.{value_or0};
 ghost use Rattle.lines.specs.Kinds.{kind_of};

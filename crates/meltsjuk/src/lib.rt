@@ -1,6 +1,8 @@
 // The services for C and Rust: `rt staticlib meltsjuk` writes the archive; the header and the Rust package are in bindings/. Each
 // function calls one service and turns its answer into a number, and numbers put where the caller asks. To C a slice is a pointer
 // and a length.
+#![tactic(auto)]
+
 ghost use Rattle.std.specs.Prelude.{◌≡◌};
 ghost use Rattle.lent.specs.Lent.{too_little, scratch_left, little_scratch, fewer, too_few, memory_left};
 ghost use Rattle.ranking.specs.Services.{places_left};

@@ -2,7 +2,7 @@
 use Rattle.std.specs.Prelude.{◌≡◌, refl, List, [], ◌∷◌, map, ℕ, zero, suc, ◌+◌, ◌*◌, ◌^◌, ◌/◌, ◌%◌, ◌<◌, length, get_or}
 use Rattle.std.proofs.Common.{◌∙◌, pow-suc, arith}
 use Rattle.std.proofs.lemmas.List.{length-map}
-use Rattle.chains.specs.Bounds.{part_bounds}
+use Rattle.chains.proofs.Bounds.{part_bounds}
 use Rattle.parts.specs.Table.{parts}
 use Rattle.parts.specs.Parts.{part_at}
 use Rattle.parts.specs.Numbers.{parts_count, part_value, part_below}

@@ -7,8 +7,8 @@ use Rattle.std.proofs.Math.Dec.{T, eqb, leb→le, eqb→eq}
 use Rattle.std.specs.Float.Ieee.Fits.{and_l, and_r}
 use Rattle.std.proofs.Math.ListN.{get_or, get_or-eq_default}
 use Rattle.chains.specs.Chains.{Part, value}
-use Rattle.chains.specs.Divides.{value_pos, value_unique}
-use Rattle.chains.specs.Bounds.{part_bounds}
+use Rattle.chains.proofs.Divides.{value_pos, value_unique}
+use Rattle.chains.proofs.Bounds.{part_bounds}
 use Rattle.parts.specs.Table.{rows, joined, parts}
 use Rattle.parts.specs.Parts.{limit, times, part_at, part_number, number_of}
 use Rattle.parts.specs.declared.Number.TheVariants.{At, None}

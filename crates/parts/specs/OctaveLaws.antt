@@ -5,7 +5,7 @@ use Rattle.std.proofs.Common.{◌∙◌, ltb→lt, eqb→eq}
 use Rattle.std.proofs.Math.Dec.{T, leb→le}
 use Rattle.std.specs.Float.Ieee.Fits.{and_l, and_r}
 use Rattle.chains.specs.Chains.{Part, value}
-use Rattle.chains.specs.Divides.{value_unique}
+use Rattle.chains.proofs.Divides.{value_unique}
 use Rattle.parts.specs.Table.{rows, parts}
 use Rattle.parts.specs.Parts.{part_at}
 use Rattle.parts.specs.Tests.{below, at_below, look, look_joined}

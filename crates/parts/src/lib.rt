@@ -1,4 +1,6 @@
 // Parts 2^a × 3^b below 2^64 and their numbers in the part table.
+#![tactic(auto)]
+
 pub mod codes;
 mod octaves;
 pub mod table;
@@ -8,7 +10,7 @@ ghost use Rattle.chains.specs.Chains.{Part, value, ProperMultiple};
 ghost use Rattle.parts.specs.Parts.{exponents_at, largest_of, same_part, part_number, number_of, sum_at, sum_of};
 
 // A part's exponents.
-#[derive(Drop)]
+#[derive(Clone, Copy)]
 pub struct Exponents {
     pub a: u64,
     pub b: u64,

@@ -16,12 +16,12 @@ use Rattle.lent.specs.LentLaws.{scratch_little, scratch_enough, enough}
 use Rattle.chains.specs.Chains.{total}
 use Rattle.chains.specs.Words.{Word, word_of, chain_of, reads}
 use Rattle.chains.specs.Listing.{list_of, count, count_before, position, chain_at}
-use Rattle.chains.specs.Listed.{chain_listed}
-use Rattle.chains.specs.Members.{member_words, list_holds, get_or_member}
-use Rattle.chains.specs.Readers.{readers_good}
-use Rattle.chains.specs.Positions.{word_at_position}
-use Rattle.chains.specs.PositionsOfChains.{position_at}
-use Rattle.chains.specs.Bounds.{letters_bound}
+use Rattle.chains.proofs.Listed.{chain_listed}
+use Rattle.chains.proofs.Members.{member_words, list_holds, get_or_member}
+use Rattle.chains.proofs.Readers.{readers_good}
+use Rattle.chains.proofs.Positions.{word_at_position}
+use Rattle.chains.proofs.PositionsOfChains.{position_at}
+use Rattle.chains.proofs.Bounds.{letters_bound}
 use Rattle.words.specs.Records.{record_parts}
 use Rattle.words.specs.RecordLaws.{judged_sum}
 use Rattle.words.specs.Packed.{bits, rise, mark, packed_of, packed_letters, packed_chain, parts_left}

@@ -2,12 +2,12 @@
 -- From the number alone (chains, Few): the chain at a position is refused with 6 from position 1 on exactly for the numbers named for one
 -- chain, and from position 2 on exactly for those named for two.
 use Rattle.std.specs.Prelude.{◌≡◌, ◌↔◌, List, ℕ, ◌≤◌}
-use Rattle.std.proofs.Math.Logic.{Iff·trans}
+use Rattle.std.proofs.Math.Logic.Iff
 use Rattle.std.proofs.Common.{le_refl}
 use native.Mathlib.Omega.{arith}
 use Rattle.chains.specs.Listing.{count}
 use Rattle.chains.specs.Few.{NamedForOne, NamedForTwo}
-use Rattle.chains.specs.FewLaws.{one_chain, two_chains}
+use Rattle.chains.proofs.FewLaws.{one_chain, two_chains}
 use Rattle.lent.specs.Lent.{Enough}
 use Rattle.ranking.specs.Services.{lent, answer_of, at_position}
 use Rattle.ranking.specs.RoundTrips.{position_refused}
@@ -25,14 +25,14 @@ module _ (n : ℕ) (scratch places : List ℕ) (enough : Enough 64 scratch place
     λ h.
         omega
         (arith, (at k).0 ((h k).1 (le_refl k)), (h (count n)).0 ((at (count n)).1 (le_refl (count n)))),
-    λ e i. Iff·trans (at i) (λ l. omega arith, λ l. omega arith),
+    λ e i. Iff.trans (at i) (λ l. omega arith, λ l. omega arith),
   )
     where
       at : (i : ℕ) → (answer_of (lent scratch places (at_position n i)) ≡ found.Refused 6) ↔ (count n ≤ i)
       at i = position_refused n i scratch places enough
 
   pub one_refused : RefusedFrom 1 n scratch places ↔ NamedForOne n
-  one_refused = Iff·trans (refused_from 1) (one_chain n)
+  one_refused = Iff.trans (refused_from 1) (one_chain n)
 
   pub two_refused : RefusedFrom 2 n scratch places ↔ NamedForTwo n
-  two_refused = Iff·trans (refused_from 2) (two_chains n)
+  two_refused = Iff.trans (refused_from 2) (two_chains n)

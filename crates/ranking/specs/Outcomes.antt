@@ -3,7 +3,7 @@
 -- refusal a word or a record gets is in Refusals, round trips between the services are in RoundTrips.
 use Rattle.std.specs.Prelude.{◌≡◌, refl, ◌↔◌, Bool, true, false, cond, ℕ, ◌+◌, ◌^◌, ◌≤◌, ◌<◌, T, ltb, leb}
 use Rattle.std.proofs.Common.{sym, ap, ◌∙◌, arith, ltb→lt, leb→le, le→leb, lt-ltb, le-leb}
-use Rattle.std.proofs.Math.Logic.{Iff·and, Iff·rfl, Iff·trans}
+use Rattle.std.proofs.Math.Logic.Iff
 use mathlib.Core.List.{List, map, Memᴰ}
 use Rattle.std.proofs.Math.Decide.{dec_lt}
 use Rattle.std.specs.Float.Ieee.Bits.{is_true}
@@ -11,10 +11,10 @@ use Rattle.std.proofs.lemmas.Bool.{lt-leb}
 use Rattle.chains.specs.Chains.{Part, total, ChainOf}
 use Rattle.chains.specs.Words.{Word, word_of, chain_of, reads}
 use Rattle.chains.specs.Listing.{list_of, count, count_before, position, chain_at}
-use Rattle.chains.specs.Members.{list_holds}
-use Rattle.chains.specs.Readers.{readers_good}
-use Rattle.chains.specs.RoundTrip.{chain_word_chain, word_chained, word_chain_word, word_reads}
-use Rattle.chains.specs.PositionsOfChains.{chain_at_chain, position_at, at_position_lem}
+use Rattle.chains.proofs.Members.{list_holds}
+use Rattle.chains.proofs.Readers.{readers_good}
+use Rattle.chains.proofs.RoundTrip.{chain_word_chain, word_chained, word_chain_word, word_reads}
+use Rattle.chains.proofs.PositionsOfChains.{chain_at_chain, position_at, at_position_lem}
 use Rattle.parts.specs.Parts.{part_number}
 use Rattle.words.specs.TestLaws.{in_first}
 use Rattle.words.specs.Records.{record_parts, judged_of}
@@ -51,7 +51,7 @@ pub standing_refused : (r n i s : ℕ) → (standing r n i ≡ refused s) ↔ ((
 unfolding standing
 standing_refused r n i s =
     let c = chain_at n i in
-    Iff·trans (in_first (leb (count n) i) (refused r) (gives n c) (refused s) (no_refusal n c s)) (there, back)
+    Iff.trans (in_first (leb (count n) i) (refused r) (gives n c) (refused s) (no_refusal n c s)) (there, back)
   where
     there : T (leb (count n) i) × (refused r ≡ refused s) → (s ≡ r) × (count n ≤ i)
     there (past, e) = (sym (same_refusal r s e), leb→le (count n) i past)
@@ -71,7 +71,7 @@ at_past n i h = standing_past 6 n i h
 -- And exactly there.
 pub at_refused : (n i : ℕ) → (at_position n i ≡ refused 6) ↔ (count n ≤ i)
 unfolding at_position
-at_refused n i = Iff·trans (standing_refused 6 n i 6) (λ g. g.1, λ l. (refl, l))
+at_refused n i = Iff.trans (standing_refused 6 n i 6) (λ g. g.1, λ l. (refl, l))
 
 -- A chain of n is given at its position.
 pub at_chain : (n : ℕ) (c : List Part) → ChainOf n c → at_position n (position n c) ≡ gives n c
@@ -170,8 +170,8 @@ pub after_refused : (n : ℕ) (c : List Part) → ChainOf n c → (r : ℕ)
     → (after n c ≡ refused r) ↔ ((r ≡ 11) × (position n c + 1 ≡ count n))
 unfolding after
 after_refused n c h r =
-    Iff·trans (standing_refused 11 n (position n c + 1) r)
-    (Iff·and Iff·rfl (λ l. omega (arith, (at_position_lem n c h).0), λ e. omega arith))
+    Iff.trans (standing_refused 11 n (position n c + 1) r)
+    (Iff.and Iff.rfl (λ l. omega (arith, (at_position_lem n c h).0), λ e. omega arith))
 
 -- The same of the word of a chain c of n.
 pub next_below : (n : ℕ) (c : List Part) → ChainOf n c → n < 2 ^ 64 → position n c + 1 < count n

@@ -6,16 +6,17 @@
 use Rattle.std.specs.Prelude.{◌≡◌, ◌↔◌, ◌⊎◌, true, List, ◌∷◌, ◌++◌, ℕ, ◌+◌, ◌^◌, ◌≤◌, ◌<◌, length}
 use Rattle.std.proofs.Math.Path.{refl, ap}
 use Rattle.std.proofs.Common.{sym, ◌∙◌, ⊎_elim, arith, lt-ltb}
-use Rattle.std.proofs.Math.Logic.{inl, inr, Iff·trans}
+use Rattle.std.proofs.Math.Logic.{inl, inr}
+use Rattle.std.proofs.Math.Logic.Iff
 use Rattle.std.proofs.Math.Decide.{dec_lt}
 use Rattle.std.specs.Float.Ieee.Bits.{is_true}
 use Rattle.chains.specs.Chains.{value, total}
 use Rattle.chains.specs.Words.{Word, origin, Good, chain_of, reads}
 use Rattle.chains.specs.Listing.{count, position}
-use Rattle.chains.specs.Rest.{point_after}
-use Rattle.chains.specs.Bounds.{point_at_most}
-use Rattle.chains.specs.Readers.{readers_good}
-use Rattle.chains.specs.RoundTrip.{chain_word_chain, word_reads}
+use Rattle.chains.proofs.Rest.{point_after}
+use Rattle.chains.proofs.Bounds.{point_at_most}
+use Rattle.chains.proofs.Readers.{readers_good}
+use Rattle.chains.proofs.RoundTrip.{chain_word_chain, word_reads}
 use Rattle.lent.specs.Lent.{scratch_size, Lends, Enough}
 use Rattle.lent.specs.LentLaws.{scratch_little, little_scratch_lem, little_places}
 use Rattle.words.specs.Records.{record_parts, Burned, judged_of}
@@ -113,8 +114,8 @@ module _ (w : Word) where
   next_refusals =
       let read = word_refusals w in
       record {
-        refusal_7 = Iff·trans (as_read 7 (λ e. omega arith)) read.refusal_7;
-        refusal_10 = Iff·trans (as_read 10 (λ e. omega arith)) read.refusal_10;
+        refusal_7 = Iff.trans (as_read 7 (λ e. omega arith)) read.refusal_7;
+        refusal_10 = Iff.trans (as_read 10 (λ e. omega arith)) read.refusal_10;
         refusal_11 = (
           λ e.
               ⊎_elim
@@ -137,9 +138,9 @@ module _ (w : Word) where
   next_chain_refusals s p h =
       let told = found_refused s p h (next_of (of_word w)) in
       record {
-        refusal_7 = Iff·trans (told 7) next_refusals.refusal_7;
-        refusal_10 = Iff·trans (told 10) next_refusals.refusal_10;
-        refusal_11 = Iff·trans (told 11) next_refusals.refusal_11;
+        refusal_7 = Iff.trans (told 7) next_refusals.refusal_7;
+        refusal_10 = Iff.trans (told 10) next_refusals.refusal_10;
+        refusal_11 = Iff.trans (told 11) next_refusals.refusal_11;
         no_other = λ r e. next_refusals.no_other r ((told r).0 e);
       }
 
@@ -168,7 +169,7 @@ place_record_refusals l s h = record_lifted (refused_alike (lent_scratch s (of_r
 -- Where it is not refused it gives the chain of its parts.
 pub record_given : (l : List ℕ) (n : ℕ) → (of_record l ≡ gives n (record_parts l)) ↔ Burned l n
 unfolding of_record judged_as
-record_given l n = Iff·trans (as_judged (judged_of l)) (judged_sum l n)
+record_given l n = Iff.trans (as_judged (judged_of l)) (judged_sum l n)
   where
     as_judged : (j : Judged) → (judged_as l j ≡ gives n (record_parts l)) ↔ (j ≡ judged.Sum n)
     as_judged (judged.Sum m) = (λ e. cc, λ e. cc)
@@ -241,4 +242,4 @@ read_record_too_little l s =
 
 pub place_record_too_little : (l s : List ℕ)
     → (position_of (lent_scratch s (of_record l)) ≡ told.Refused 1) ↔ (length s < scratch_size)
-place_record_too_little l s = Iff·trans (refused_alike (lent_scratch s (of_record l)) 1) (read_record_too_little l s)
+place_record_too_little l s = Iff.trans (refused_alike (lent_scratch s (of_record l)) 1) (read_record_too_little l s)

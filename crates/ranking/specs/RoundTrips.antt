@@ -5,7 +5,7 @@
 -- That the outcomes are 003's chains and their positions, each as the service's definition has it, is in Outcomes.
 use Rattle.std.specs.Prelude.{◌≡◌, refl, ◌↔◌, Bool, true, false, cond, List, map, ℕ, ◌+◌, ◌^◌, ◌≤◌, ◌<◌, length, take}
 use Rattle.std.proofs.Common.{sym, ap, ◌∙◌, arith}
-use Rattle.std.proofs.Math.Logic.{Iff·trans}
+use Rattle.std.proofs.Math.Logic.Iff
 use Rattle.std.proofs.lemmas.List.{length-map}
 use Rattle.lent.specs.LentLaws.{filled_first, scratch_enough, enough, not_little}
 use Rattle.chains.specs.Chains.{Part, total, ChainOf}
@@ -250,7 +250,7 @@ pub position_refused :
     (n i : ℕ) (scratch places : List ℕ)
     → Enough 64 scratch places
     → (answer_of (lent scratch places (at_position n i)) ≡ found.Refused 6) ↔ (count n ≤ i)
-position_refused n i scratch places h = Iff·trans (found_refused scratch places h (at_position n i) 6) (at_refused n i)
+position_refused n i scratch places h = Iff.trans (found_refused scratch places h (at_position n i) 6) (at_refused n i)
 
 -- ---- words and records
 
@@ -341,4 +341,4 @@ next_refused w n i k scratch places e =
     found_gives scratch places (of_word w) n i k e λ c given own there size.
     let (chain, word, f) = of_gives w n c given in
     rw (lent_enough scratch places (next_of (of_word w)) own, given, ← there)
-    (Iff·trans (answer_refused (after n c) 11) (Iff·trans (after_refused n c chain 11) (λ g. g.1, λ l. (refl, l))))
+    (Iff.trans (answer_refused (after n c) 11) (Iff.trans (after_refused n c chain 11) (λ g. g.1, λ l. (refl, l))))

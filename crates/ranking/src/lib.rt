@@ -1,4 +1,6 @@
 // Finding a chain or its position in the list of n, on a lent scratch.
+#![tactic(auto)]
+
 mod giving;
 
 ghost use Rattle.std.specs.Prelude.{◌≡◌};

@@ -4,7 +4,8 @@
 -- in Ran.
 use Rattle.std.specs.Prelude.{◌≡◌, ℕ, ◌*◌, ◌%◌, ◌^◌, ◌<◌, ◌≤◌, false, cond, ◌⊎◌, ◌↔◌, List, ◌==◌, nat_le, nat_lt, refl}
 use Rattle.std.proofs.Common.{sym, ◌∙◌, arith, leb→le}
-use Rattle.std.proofs.Math.Logic.{inl, inr, ⊎_elim, Iff·and, Iff·trans}
+use Rattle.std.proofs.Math.Logic.{inl, inr, ⊎_elim}
+use Rattle.std.proofs.Math.Logic.Iff
 use Rattle.std.proofs.Math.Dec.{le→leb}
 use borrow.Author.Tests.{ne_eqb, eqb-false, ltb-false, leb-false, le-ltb, lt-leb}
 use Rattle.lent.specs.LentLaws.{neither}
@@ -50,11 +51,11 @@ module _ (l : List ℕ) (m x : ℕ) where
       → (ran_of l m x ≡ z) ↔ (ResidueBy m x × (run_judged l m x (judged_of l) ≡ z))
   unfolding ran_of
   by_record z h g =
-      Iff·trans
-      (Iff·trans (in_second (bad_modulus m) (Refused 13) _ z h)
-      (Iff·and (test_false (bad_modulus m) (modulus_passes m) (passes_modulus m))
-      (Iff·trans (in_second (nat_le m x) (Refused 14) _ z g)
-      (Iff·and (test_false (nat_le m x) (λ (k : x < m). lt-leb m x k) (leb-false m x))
+      Iff.trans
+      (Iff.trans (in_second (bad_modulus m) (Refused 13) _ z h)
+      (Iff.and (test_false (bad_modulus m) (modulus_passes m) (passes_modulus m))
+      (Iff.trans (in_second (nat_le m x) (Refused 14) _ z g)
+      (Iff.and (test_false (nat_le m x) (λ (k : x < m). lt-leb m x k) (leb-false m x))
       ((λ e. e), λ e. e)))))
       (λ t. ((t.0, t.1.0), t.1.1), λ t. (t.0.0, (t.0.1, t.1)))
 
@@ -90,9 +91,9 @@ module _ (l : List ℕ) (m x : ℕ) where
   -- A residue is told exactly if m is a modulus, x a residue and the record names a chain, of n say; and it is n × x modulo m.
   pub ran_residue : (r : ℕ) → (ran_of l m x ≡ Residue r) ↔ (ResidueBy m x × ((n : ℕ) × Burned l n × (r ≡ n * x % m)))
   ran_residue r =
-      Iff·trans
+      Iff.trans
       (by_record (Residue r) (λ e. let z : ◌≡◌ {A = ℕ} 0 1 = cc in omega arith) (λ e. let z : ◌≡◌ {A = ℕ} 0 1 = cc in omega arith))
-      (Iff·and ((λ h. h), λ h. h) (as_run r (judged_of l) refl))
+      (Iff.and ((λ h. h), λ h. h) (as_run r (judged_of l) refl))
 
 -- The refusals, where `refused r` says that the call is refused with r: each number exactly if what document 02 says holds and
 -- nothing before it does, and no other number. In the order of the tests.
@@ -107,11 +108,11 @@ pub record RunRefusals (l : List ℕ) (m x : ℕ) (refused : ℕ → Type 0) : T
 -- The same of an answer that is refused exactly when another one is.
 pub run_lifted : {l : List ℕ} {m x : ℕ} {p q : ℕ → Type 0} → ((r : ℕ) → q r ↔ p r) → RunRefusals l m x p → RunRefusals l m x q
 run_lifted f h = record {
-  refusal_13 = Iff·trans (f 13) h.refusal_13;
-  refusal_14 = Iff·trans (f 14) h.refusal_14;
-  refusal_8 = Iff·trans (f 8) h.refusal_8;
-  refusal_9 = Iff·trans (f 9) h.refusal_9;
-  refusal_10 = Iff·trans (f 10) h.refusal_10;
+  refusal_13 = Iff.trans (f 13) h.refusal_13;
+  refusal_14 = Iff.trans (f 14) h.refusal_14;
+  refusal_8 = Iff.trans (f 8) h.refusal_8;
+  refusal_9 = Iff.trans (f 9) h.refusal_9;
+  refusal_10 = Iff.trans (f 10) h.refusal_10;
   no_other = λ r e. h.no_other r ((f r).0 e);
 }
 
@@ -141,24 +142,24 @@ module _ (l : List ℕ) (m x : ℕ) where
   -- A refusal that is the record's own.
   of_record_lem : (r : ℕ) → r < 13 → {P : Type 0} → (judged_of l ≡ judged.Refused r) ↔ P → (ran_of l m x ≡ Refused r) ↔ (ResidueBy m x × P)
   of_record_lem r h f =
-      Iff·trans (by_record l m x (Refused r) (λ e. omega (arith, same 13 r e)) (λ e. omega (arith, same 14 r e)))
-      (Iff·and ((λ t. t), λ t. t) (Iff·trans (as_refused l m x r (judged_of l)) f))
+      Iff.trans (by_record l m x (Refused r) (λ e. omega (arith, same 13 r e)) (λ e. omega (arith, same 14 r e)))
+      (Iff.and ((λ t. t), λ t. t) (Iff.trans (as_refused l m x r (judged_of l)) f))
 
   pub run_refusals : RunRefusals l m x (λ r. ran_of l m x ≡ Refused r)
   unfolding ran_of
   run_refusals =
       record {
         refusal_13 =
-            Iff·trans
+            Iff.trans
             (is_first (bad_modulus m) (Refused 13) later
             (λ e. ⊎_elim (λ (f : 13 ≡ 14). omega arith) (λ (f : (13 ≡ 8) ⊎ ((13 ≡ 9) ⊎ (13 ≡ 10))).
             ⊎_elim (λ (g : 13 ≡ 8). omega arith) (⊎_elim (λ (g : 13 ≡ 9). omega arith) (λ (g : 13 ≡ 10). omega arith)) f)
             (later_only 13 e)))
             (test_true (bad_modulus m) (modulus_passes m) (passes_modulus m));
         refusal_14 =
-            Iff·trans (in_second (bad_modulus m) (Refused 13) later (Refused 14) (λ e. omega (arith, same 13 14 e)))
-            (Iff·and (test_false (bad_modulus m) (modulus_passes m) (passes_modulus m))
-            (Iff·trans (is_first (nat_le m x) (Refused 14) last (not_last 14 (omega arith))) (leb→le m x, le→leb m x)));
+            Iff.trans (in_second (bad_modulus m) (Refused 13) later (Refused 14) (λ e. omega (arith, same 13 14 e)))
+            (Iff.and (test_false (bad_modulus m) (modulus_passes m) (passes_modulus m))
+            (Iff.trans (is_first (nat_le m x) (Refused 14) last (not_last 14 (omega arith))) (leb→le m x, le→leb m x)));
         refusal_8 = of_record_lem 8 (omega arith) (judged_refusals l).refusal_8;
         refusal_9 = of_record_lem 9 (omega arith) (judged_refusals l).refusal_9;
         refusal_10 = of_record_lem 10 (omega arith) (judged_refusals l).refusal_10;

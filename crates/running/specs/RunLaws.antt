@@ -6,8 +6,8 @@ use Rattle.std.proofs.Math.Nat.{zero-mod, mod-add-mod, add-mod-mod}
 use native.Mathlib.Omega.{arith}
 use Rattle.chains.specs.Chains.{Part, ChainOf}
 use Rattle.chains.specs.Words.{Word, word_of}
-use Rattle.chains.specs.Weight.{weight, total_chain_of}
-use Rattle.chains.specs.RoundTrip.{chain_word_chain}
+use Rattle.chains.proofs.Weight.{weight, total_chain_of}
+use Rattle.chains.proofs.RoundTrip.{chain_word_chain}
 use Rattle.running.specs.Run.{doubled, tripled, added, run, chain_run}
 
 -- ---- the run along a word

@@ -1,5 +1,7 @@
 // Running a chain on residues: document 02, T-02. The path of the chain is followed back from the largest part, with a residue
 // modulo m that is doubled, tripled and added to.
+#![tactic(auto)]
+
 mod steps;
 
 ghost use Rattle.std.specs.Prelude.{◌≡◌};

@@ -1,6 +1,8 @@
 // The services on a long sequence of 64-bit numbers, to be timed by speed/run: `speed_services SERVICE TIMES`, both in decimal.
 // SERVICE: 1 count, 2 best chain, 3 chain at a position, 4 choosing. Prints a sum over all answers, which speed/plain_services.rs
 // prints too. With no words it does nothing.
+#![tactic(auto)]
+
 use best::{Best, Chosen, Limits, Prices};
 use counting::Counted;
 use ranking::Found;

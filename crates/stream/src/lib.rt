@@ -1,6 +1,8 @@
 // Answering a file of lines block by block: document 01, 'Frames'. A line ends at byte 10; each reply is followed by a byte 10. Of
 // a line that a block does not end, the first 515 characters are kept for the next block: a line that long is refused in any
 // case. Every public function here takes any input.
+#![tactic(auto)]
+
 ghost use Rattle.std.specs.Prelude.{◌≡◌, false, [], ◌++◌, ◌+◌, ◌≤◌, min, length, take};
 ghost use Rattle.lent.specs.Lent.{filled, OnlyFirst, scratch_size, scratch_left};
 ghost use Rattle.lines.specs.Stream.{finished, unfinished, last_line};

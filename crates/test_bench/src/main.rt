@@ -10,6 +10,8 @@
 // walks, and a digest of every answer and of the whole bench after each call. For the numbers to 27 each move is told before it: the
 // chain, the kind, + for up or - for down, the row, the chain after it. Chains of 64-bit numbers have a line each, and lines of their
 // stroll. A refused record has the refusal and a digest of the bench.
+#![tactic(auto)]
+
 mod every_move;
 mod memory;
 mod refusals;

@@ -8,6 +8,8 @@
 // scratch begins with end, where the ones that follow them end, and the same of the places behind the parts. Then a second line tells
 // the two calls apart: the number of parts, the price and the part numbers that were chosen, with what is left, and the position with
 // what is left in the scratch.
+#![tactic(auto)]
+
 use best::{Best, Chosen, Limits, Prices};
 use libc::STDOUT_FILENO;
 use ranking::Position;

@@ -1,6 +1,8 @@
 // The words of all chains of 0 to 300. Standard input has a record a line, part numbers in decimal with a space between them, those
 // of a number in the order of its list. For each the program prints the sum of the parts, the word, and how the word of the line
 // before stands to it: < where it is earlier, > where it is later.
+#![tactic(auto)]
+
 use comparing::Compared;
 use libc::{STDIN_FILENO, STDOUT_FILENO};
 use words::{Judged, Written};

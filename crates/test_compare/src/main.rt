@@ -5,6 +5,8 @@
 // word cut off at the place and the new one, both ways round.
 // Then words of zeros with one 1 and a 3 at the end: all pairs of one length, a line for each length; and without the 1 all pairs of
 // lengths up to 26, a line for each first length.
+#![tactic(auto)]
+
 ghost use Rattle.std.specs.Prelude.{◌≡◌, ◌≤◌, ◌<◌, length};
 
 use comparing::Compared;

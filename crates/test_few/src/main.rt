@@ -3,6 +3,8 @@
 // First all numbers below 3,145,728: a line for each that has fewer than three chains, the number and its count. After each 65,536
 // numbers a line `< n d`, where d is a digest of the counts of all numbers below n. Then the numbers 3 × 2^a − 1, 9 × 2^a − 1 and
 // 15 × 2^a − 1 below 2^64: a line for each, the number, its count, and the counts of the number before it and of the one after it.
+#![tactic(auto)]
+
 use std::num::{wrapping_add_u64, wrapping_sub_u64};
 
 // A refusal is told as 0, which is the count of no number.

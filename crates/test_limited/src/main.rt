@@ -9,6 +9,8 @@
 // - What is left in the lent memory, for a scratch one number too short, just long enough and ten longer, and for 63, 64 and 70 places:
 //   the cheapest chain, where the zeros that the scratch begins with end, where what it held at entry ends after them, and the same of
 //   the places behind the parts; then the count, with the same of the scratch.
+#![tactic(auto)]
+
 mod asked;
 mod falling;
 mod left;

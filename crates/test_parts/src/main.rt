@@ -1,5 +1,7 @@
 // Prints each part number with its value, the value's exponents and the number that these have, and the exponents told from the number;
 // then numbers at the edges of the table, exponents of numbers past it, and sums that just fit and just do not.
+#![tactic(auto)]
+
 ghost use Rattle.std.specs.Prelude.{◌≡◌, get_or};
 ghost use Rattle.parts.specs.Table.{parts};
 

@@ -1,5 +1,7 @@
 // The plain count of 0 to 2,000, then of 65,536 and 2^64 − 1, which are refused, and of 65,535: one answer a line, in decimal, the
 // count or the number of the refusal.
+#![tactic(auto)]
+
 fn tell(n: u64) {
     let told = match counting::plain_count(n) {
         counting::Counted::Count(w) => w,

@@ -7,6 +7,8 @@
 // or the refusal. A record that is refused has two numbers, of reading and of placing. A refused position has its
 // number alone. Whatever else comes is printed in full. Of 5,248 numbers that are full of ones at each call, 512, 513 or all are
 // lent as the scratch; ! stands behind the answer where they, or the places past the 64th, are not left as they should be.
+#![tactic(auto)]
+
 ghost use Rattle.std.specs.Prelude.{◌≡◌, ◌<◌, ◌≤◌, length};
 
 use counting::Counted;

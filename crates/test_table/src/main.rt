@@ -1,6 +1,7 @@
 // The table count of 0 to 2,000 and of many 64-bit numbers, with a scratch that holds only ones at entry, and what it leaves in the
 // scratch: one call a line, the count or the number of the refusal, then where the zeros that the scratch begins with end, then
 // where the ones that follow them end. The scratch has 512 numbers, one more, or 5,248. One of 511 is refused and holds no zero.
+#![tactic(auto)]
 
 // The last number that the plain count serves, powers of two and of three with their neighbours, a large count, and the last
 // number.

@@ -1,6 +1,8 @@
 // Prints what the services on words answer. First all words of up to five letters 0 to 4: a good one with its number, its parts and
 // its word written from them, any other not at all; then words at the edges and damaged ones, and records that are refused or just
 // fit, each with the lent places, which hold 170 at entry.
+#![tactic(auto)]
+
 ghost use Rattle.std.specs.Prelude.{◌≡◌, ◌≤◌, ◌<◌, length};
 
 use libc::STDOUT_FILENO;

@@ -11,10 +11,10 @@ use lib.ListN.{length, drop}
 use borrow.Author.Tests.{lt-ltb}
 use Rattle.chains.specs.Chains.{total}
 use Rattle.chains.specs.Words.{Word, reads, word_of, chain_of}
-use Rattle.chains.specs.Weight.{total_chain_of}
-use Rattle.chains.specs.Marks.{taken}
-use Rattle.chains.specs.Bounds.{letters_bound}
-use Rattle.chains.specs.RoundTrip.{word_reads}
+use Rattle.chains.proofs.Weight.{total_chain_of}
+use Rattle.chains.proofs.Marks.{taken}
+use Rattle.chains.proofs.Bounds.{letters_bound}
+use Rattle.chains.proofs.RoundTrip.{word_reads}
 use Rattle.words.specs.Records.{record_parts}
 use Rattle.words.specs.Packed.{bits, rise}
 use Rattle.words.specs.PackedLaws.{PackedFrom}

@@ -4,7 +4,8 @@
 use Rattle.std.proofs.Math.Path.{◌≡◌, refl, ap, sym}
 use Rattle.std.proofs.Common.{◌∙◌, ltb→lt, eqb→eq, le-ltb}
 use Rattle.std.specs.Prelude.{◌↔◌, ◌⊎◌, Bool, true, false, cond, ◌||◌, ltb, eqb, length}
-use Rattle.std.proofs.Math.Logic.{inl, inr, ⊎_elim, Iff·and, Iff·trans, Iff·not, Iff·rfl}
+use Rattle.std.proofs.Math.Logic.{inl, inr, ⊎_elim}
+use Rattle.std.proofs.Math.Logic.Iff
 use mathlib.Core.List.{List, [], ◌∷◌, map}
 use Prim.Native.Nat.{ℕ, zero, suc, ◌^◌, ◌≤◌, ◌<◌}
 use native.Mathlib.Omega.{arith}
@@ -13,7 +14,7 @@ use Rattle.std.specs.Float.Ieee.Fits.{eq→eqb}
 use Rattle.std.proofs.Math.ListN.{get_or}
 use Rattle.chains.specs.Chains.{Part, Chained, total, ChainOf}
 use Rattle.chains.specs.Words.{Word}
-use Rattle.chains.specs.Bounds.{chain_of_0}
+use Rattle.chains.proofs.Bounds.{chain_of_0}
 use Rattle.parts.specs.Parts.{part_number}
 use Rattle.lent.specs.Lent.{Enough}
 use Rattle.words.specs.Records.{record_parts}
@@ -82,8 +83,8 @@ pub record TreeRefusals (w : Word) (refused : ℕ → Type 0) : Type 0 where
 -- The same of an answer that is refused exactly when another one is.
 pub tree_lifted : {w : Word} {p q : ℕ → Type 0} → ((r : ℕ) → q r ↔ p r) → TreeRefusals w p → TreeRefusals w q
 tree_lifted f h = record {
-  refusal_15 = Iff·trans (f 15) h.refusal_15;
-  refusal_10 = Iff·trans (f 10) h.refusal_10;
+  refusal_15 = Iff.trans (f 15) h.refusal_15;
+  refusal_10 = Iff.trans (f 10) h.refusal_10;
   no_other = λ r e. h.no_other r ((f r).0 e);
 }
 
@@ -125,9 +126,9 @@ module _ (w : Word) where
 
   known_15 : (known ≡ refuse 15) ↔ ((number w < 2 ^ 64) × Unproduced w)
   known_15 =
-      Iff·trans (in_first fits fitting (refuse 10) (refuse 15) (λ e. omega (arith, same 10 15 e)))
-      (Iff·and (ltb→lt (number w) (2 ^ 64), lt→ltb (number w) (2 ^ 64))
-      (Iff·trans (is_second (produced w (number w)) sum (refuse 15) (no_sum (number w) 15)) not_made))
+      Iff.trans (in_first fits fitting (refuse 10) (refuse 15) (λ e. omega (arith, same 10 15 e)))
+      (Iff.and (ltb→lt (number w) (2 ^ 64), lt→ltb (number w) (2 ^ 64))
+      (Iff.trans (is_second (produced w (number w)) sum (refuse 15) (no_sum (number w) 15)) not_made))
 
   judged_15 : (b : Bool) → T b ↔ Foreign w
       → (cond b (refuse 15) known ≡ refuse 15) ↔ (Foreign w ⊎ ((¬ Foreign w) × (number w < 2 ^ 64) × Unproduced w))
@@ -143,9 +144,9 @@ module _ (w : Word) where
   judged_tree_refusals = record {
     refusal_15 = judged_15 (foreign w) (foreign_test w);
     refusal_10 =
-        Iff·trans (in_second (foreign w) (refuse 15) known (refuse 10) (λ e. omega (arith, same 15 10 e)))
-        (Iff·and (Iff·not (foreign_test w))
-        (Iff·trans (is_second fits fitting (refuse 10) (λ e. omega (arith, fitting_only 10 e))) (not_below (number w) (2 ^ 64))));
+        Iff.trans (in_second (foreign w) (refuse 15) known (refuse 10) (λ e. omega (arith, same 15 10 e)))
+        (Iff.and (Iff.not (foreign_test w))
+        (Iff.trans (is_second fits fitting (refuse 10) (λ e. omega (arith, fitting_only 10 e))) (not_below (number w) (2 ^ 64))));
     no_other =
         λ r e.
         ⊎_elim (λ (f : refuse 15 ≡ refuse r). inl (sym (same 15 r f))) (known_only r)
@@ -162,11 +163,11 @@ module _ (w : Word) where
   pub judged_tree : (n : ℕ) → (tree_judged w ≡ judged.Sum n) ↔ (T (produced w n) × (n < 2 ^ 64))
   unfolding tree_judged
   judged_tree n =
-      Iff·trans (in_second (foreign w) (refuse 15) known (judged.Sum n) (λ e. no_sum n 15 (sym e)))
-      (Iff·trans
-      (Iff·and (Iff·not (foreign_test w))
-      (Iff·trans (in_first fits fitting (refuse 10) (judged.Sum n) (λ e. no_sum n 10 (sym e)))
-      (Iff·and (ltb→lt (number w) (2 ^ 64), lt→ltb (number w) (2 ^ 64))
+      Iff.trans (in_second (foreign w) (refuse 15) known (judged.Sum n) (λ e. no_sum n 15 (sym e)))
+      (Iff.trans
+      (Iff.and (Iff.not (foreign_test w))
+      (Iff.trans (in_first fits fitting (refuse 10) (judged.Sum n) (λ e. no_sum n 10 (sym e)))
+      (Iff.and (ltb→lt (number w) (2 ^ 64), lt→ltb (number w) (2 ^ 64))
       (in_first (produced w (number w)) sum (refuse 15) (judged.Sum n) (λ e. no_sum n 15 (sym e))))))
       (there, back))
     where
@@ -203,7 +204,7 @@ module _ (w : Word) where
   -- as.
   pub tree_read : (n : ℕ) (c : List Part) → (of_tree w ≡ gives n c) ↔ ((T (produced w n) × (n < 2 ^ 64)) × (c ≡ read_back w))
   unfolding of_tree
-  tree_read n c = Iff·trans (as_given n c (tree_judged w)) (Iff·and (judged_tree n) Iff·rfl)
+  tree_read n c = Iff.trans (as_given n c (tree_judged w)) (Iff.and (judged_tree n) Iff.rfl)
 
   -- What is read is a chain of its number, and the word is its tree word.
   pub tree_gives : (n : ℕ) (c : List Part) → of_tree w ≡ gives n c → ChainOf n c × (n < 2 ^ 64) × (1 ≤ n) × (tree_of c ≡ w)
@@ -232,10 +233,10 @@ pub record RecordTreeRefusals (l : List ℕ) (refused : ℕ → Type 0) : Type 0
 
 pub record_tree_lifted : {l : List ℕ} {p q : ℕ → Type 0} → ((r : ℕ) → q r ↔ p r) → RecordTreeRefusals l p → RecordTreeRefusals l q
 record_tree_lifted f h = record {
-  refusal_8 = Iff·trans (f 8) h.refusal_8;
-  refusal_9 = Iff·trans (f 9) h.refusal_9;
-  refusal_10 = Iff·trans (f 10) h.refusal_10;
-  refusal_15 = Iff·trans (f 15) h.refusal_15;
+  refusal_8 = Iff.trans (f 8) h.refusal_8;
+  refusal_9 = Iff.trans (f 9) h.refusal_9;
+  refusal_10 = Iff.trans (f 10) h.refusal_10;
+  refusal_15 = Iff.trans (f 15) h.refusal_15;
   no_other = λ r e. h.no_other r ((f r).0 e);
 }
 
@@ -290,9 +291,9 @@ module _ (l : List ℕ) where
   record_tree_refusals =
       let read = record_refusals l in
       record {
-        refusal_8 = Iff·trans (as_record 8 (λ e. omega arith)) read.refusal_8;
-        refusal_9 = Iff·trans (as_record 9 (λ e. omega arith)) read.refusal_9;
-        refusal_10 = Iff·trans (as_record 10 (λ e. omega arith)) read.refusal_10;
+        refusal_8 = Iff.trans (as_record 8 (λ e. omega arith)) read.refusal_8;
+        refusal_9 = Iff.trans (as_record 9 (λ e. omega arith)) read.refusal_9;
+        refusal_10 = Iff.trans (as_record 10 (λ e. omega arith)) read.refusal_10;
         refusal_15 = empty;
         no_other = only;
       }
@@ -325,8 +326,8 @@ module _ (l : List ℕ) where
   pub write_tree_too_little : (places : List ℕ) → (tree_told (lent_tree places (record_tree l)) ≡ written.Refused 1) ↔ (length places < 160)
   unfolding lent_tree
   write_tree_too_little places =
-      Iff·trans (told_refused 1 (cond (ltb (length places) 160) (no_tree 1) (record_tree l)))
-      (Iff·trans (is_first (ltb (length places) 160) (no_tree 1) (record_tree l) not_one)
+      Iff.trans (told_refused 1 (cond (ltb (length places) 160) (no_tree 1) (record_tree l)))
+      (Iff.trans (is_first (ltb (length places) 160) (no_tree 1) (record_tree l) not_one)
       (ltb→lt (length places) 160, lt→ltb (length places) 160))
     where
       not_one : ¬ (record_tree l ≡ no_tree 1)

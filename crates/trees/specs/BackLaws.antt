@@ -8,8 +8,8 @@ use mathlib.Core.List.{List, [], ◌∷◌, ◌++◌, map, map-append, append_as
 use Prim.Native.Nat.{ℕ, zero, suc, ◌+◌, ◌-◌, ◌*◌, ◌/◌, ◌%◌, ◌≤◌}
 use Rattle.chains.specs.Chains.{Part, value, total}
 use Rattle.chains.specs.Words.{Word, origin, right, up, chain_from, chain_of}
-use Rattle.chains.specs.Weight.{value_right}
-use Rattle.chains.specs.Steps.{by_rest}
+use Rattle.chains.proofs.Weight.{value_right}
+use Rattle.chains.proofs.Steps.{by_rest}
 use Rattle.trees.specs.Trees.{those, is_power, is_other, lowest, binary_in, binary, adding, read_back}
 
 -- ---- the chain of a path word by its first letter

@@ -8,9 +8,9 @@ use mathlib.Core.List.{List, [], ◌∷◌, ◌++◌, map}
 use Rattle.std.specs.Float.Ieee.Fits.{and_i, and_l, and_r}
 use Rattle.chains.specs.Chains.{Part, value, total}
 use Rattle.chains.specs.Words.{Word, right, up, some_left, reads, chain_from, chain_of}
-use Rattle.chains.specs.Weight.{weight}
-use Rattle.chains.specs.Marks.{part_left}
-use Rattle.chains.specs.RoundTrip.{second_first}
+use Rattle.chains.proofs.Weight.{weight}
+use Rattle.chains.proofs.Marks.{part_left}
+use Rattle.chains.proofs.RoundTrip.{second_first}
 use Rattle.trees.specs.Trees.{produced, those, lowest, binary_in, binary, adding, read_back}
 use Rattle.trees.specs.TreeOf.{letter_at, number_after, up_next, letters_in, path_from}
 use Rattle.trees.specs.Letters.{rising, Letter, only_one, first_letter, rising_low, with_letter}

@@ -9,10 +9,10 @@ use mathlib.Core.List.{List, [], ◌∷◌, map, Memᴰ}
 use Rattle.chains.specs.Chains.{Part, ChainOf}
 use Rattle.chains.specs.Words.{Word, word_of, chain_of}
 use Rattle.chains.specs.Listing.{list_of}
-use Rattle.chains.specs.Weight.{total_chain_of}
-use Rattle.chains.specs.RoundTrip.{chain_word_chain, word_reads, word_chained, word_chain_word}
-use Rattle.chains.specs.Bounds.{weight_word_of, letters_bound}
-use Rattle.chains.specs.Listed.{list_of_chains, chain_listed}
+use Rattle.chains.proofs.Weight.{total_chain_of}
+use Rattle.chains.proofs.RoundTrip.{chain_word_chain, word_reads, word_chained, word_chain_word}
+use Rattle.chains.proofs.Bounds.{weight_word_of, letters_bound}
+use Rattle.chains.proofs.Listed.{list_of_chains, chain_listed}
 use Rattle.trees.specs.Trees.{produced, number, read_back}
 use Rattle.trees.specs.TreeOf.{number_after, letters_in, tree_of, path_from}
 use Rattle.trees.specs.Letters.{rising, Letter, only_one, first_letter, rising_low, letter_range}

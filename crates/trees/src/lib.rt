@@ -1,4 +1,6 @@
 // Tree words: document 02, T-05; 003, figure 1. From a tree word to its chain, and from a record to the tree word of its chain.
+#![tactic(auto)]
+
 mod judging;
 mod numbers;
 mod paths;

@@ -9,8 +9,9 @@ use lib.ListN.{length, drop, get_or}
 use lib.Seq.{drop-cons}
 use Rattle.chains.specs.Chains.{Part, value, ProperMultiple, Chained, total}
 use Rattle.chains.specs.Words.{word_of}
-use Rattle.chains.specs.Bounds.{word_bound, word_length}
-use Rattle.chains.specs.Divides.{Above, multiple_above}
+use Rattle.chains.proofs.Bounds.{word_bound, word_length}
+use Rattle.chains.specs.Divides.{Above}
+use Rattle.chains.proofs.Divides.{multiple_above}
 use Rattle.parts.specs.Parts.{part_at}
 use Rattle.words.specs.Records.{record_parts, InTable}
 use Rattle.words.specs.RecordLaws.{in_table}

@@ -10,7 +10,7 @@ use lib.ListN.{drop}
 use borrow.Author.Tests.{lt-ltb, le-ltb, ltb-false}
 use Rattle.chains.specs.Chains.{total}
 use Rattle.chains.specs.Words.{Word, chain_of}
-use Rattle.chains.specs.Weight.{weight, total_chain_of}
+use Rattle.chains.proofs.Weight.{weight, total_chain_of}
 use Rattle.words.specs.Answers.{sized}
 use Rattle.words.specs.declared.Weighed.TheVariants.{Number, Over}
 

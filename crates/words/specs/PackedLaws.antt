@@ -13,10 +13,10 @@ use Rattle.std.proofs.lemmas.List.{length-replicate}
 use borrow.Author.Tests.{ltb-true, ltb-false}
 use Rattle.chains.specs.Chains.{Part, total}
 use Rattle.chains.specs.Words.{Word, path, marked, word_of, chain_from, chain_of, reads}
-use Rattle.chains.specs.RoundTrip.{word_reads}
-use Rattle.chains.specs.Weight.{total_chain_of}
-use Rattle.chains.specs.Bounds.{letters_bound, word_bound}
-use Rattle.chains.specs.Marks.{taken, point, chain_step}
+use Rattle.chains.proofs.RoundTrip.{word_reads}
+use Rattle.chains.proofs.Weight.{total_chain_of}
+use Rattle.chains.proofs.Bounds.{letters_bound, word_bound}
+use Rattle.chains.proofs.Marks.{taken, point, chain_step}
 use Rattle.words.specs.Records.{record_parts, judged_of, Burned}
 use Rattle.words.specs.RecordLaws.{judged_sum}
 use Rattle.words.specs.Packed.{bits, rise, mark, PackedAs, unpacked, packed_word, packed_by, packed_of, packed_letters}

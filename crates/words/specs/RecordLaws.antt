@@ -3,14 +3,14 @@
 -- part table; the theorem of record. The definitions are in Records.
 use Rattle.std.specs.Prelude.{◌≡◌, refl, ◌↔◌, Bool, true, false, cond, ◌&&◌, ◌||◌, not, List, [], ◌∷◌, ℕ, zero, suc, ◌*◌, ◌/◌, ◌%◌, ◌≤◌, ◌<◌, T, ltb, leb, eqb, length, get_or}
 use Rattle.std.proofs.Common.{ap, ◌∙◌, div-add-mod', mul-le-mul_right, lt_of_not-le, arith, ltb→lt, lt→ltb, eqb→eq, ltb-false, leb-false, le-ltb}
-use Rattle.std.proofs.Math.Logic.{Iff·and, Iff·trans}
+use Rattle.std.proofs.Math.Logic.Iff
 use Rattle.std.proofs.Math.Nat.{mul-mod_left}
 use Rattle.std.specs.Float.Ieee.Bits.{is_true}
 use Rattle.std.specs.Float.Ieee.Fits.{and_i, and_l, and_r, eq→eqb}
 use Rattle.std.proofs.lemmas.Bool.{lt-leb}
 use Rattle.lent.specs.LentLaws.{neither}
 use Rattle.chains.specs.Chains.{Part, value, ProperMultiple, Chained, total}
-use Rattle.chains.specs.Divides.{value_pos}
+use Rattle.chains.proofs.Divides.{value_pos}
 use Rattle.parts.specs.Parts.{limit}
 use Rattle.words.specs.Records.{record_parts, beyond, chained_test, Burned, judged_of}
 unfoldable pub use Rattle.words.specs.Records.{InTable}
@@ -42,8 +42,8 @@ unfolding chained_test
 chained_test_lem [] = (λ _. tt, λ _. tt)
 chained_test_lem (p ∷ []) = (λ _. tt, λ _. tt)
 chained_test_lem (p ∷ q ∷ c) =
-    Iff·trans (both_tests (ltb (value q) (value p) && eqb (value p % value q) 0) (chained_test (q ∷ c)))
-    (Iff·and (test_multiple (value p) (value q) (value_pos q)) (chained_test_lem (q ∷ c)))
+    Iff.trans (both_tests (ltb (value q) (value p) && eqb (value p % value q) 0) (chained_test (q ∷ c)))
+    (Iff.and (test_multiple (value p) (value q) (value_pos q)) (chained_test_lem (q ∷ c)))
 
 -- ---- the numbers
 

@@ -5,11 +5,12 @@
 use Rattle.std.proofs.Math.Path.{◌≡◌}
 use Rattle.std.specs.Prelude.{refl, ◌↔◌, ◌⊎◌, Bool, true, false, cond, ◌||◌, not, List, [], ◌∷◌, ℕ, zero, suc, ◌^◌, ◌≤◌, ◌<◌, T, ltb, leb, length, get_or}
 use Rattle.std.proofs.Common.{sym, arith, ltb→lt, leb→le, T_not, le-ltb}
-use Rattle.std.proofs.Math.Logic.{inl, inr, ⊎_elim, Iff·and, Iff·not, Iff·trans}
+use Rattle.std.proofs.Math.Logic.{inl, inr, ⊎_elim}
+use Rattle.std.proofs.Math.Logic.Iff
 use Rattle.std.proofs.Math.Dec.{lt→ltb, le→leb, not_T}
 use Rattle.chains.specs.Chains.{Part, Chained, total}
 use Rattle.chains.specs.Words.{Word, Good, chain_of, reads}
-use Rattle.chains.specs.Readers.{readers_good}
+use Rattle.chains.proofs.Readers.{readers_good}
 use Rattle.parts.specs.Parts.{limit}
 use Rattle.words.specs.Records.{record_parts, beyond, chained_test, judged_of}
 use Rattle.words.specs.RecordLaws.{chained_test_lem}
@@ -39,8 +40,8 @@ pub record WordRefusals (w : Word) (refused : ℕ → Type 0) : Type 0 where
 -- The same of an answer that is refused exactly when another one is.
 pub word_lifted : {w : Word} {p q : ℕ → Type 0} → ((r : ℕ) → q r ↔ p r) → WordRefusals w p → WordRefusals w q
 word_lifted f h = record {
-  refusal_7 = Iff·trans (f 7) h.refusal_7;
-  refusal_10 = Iff·trans (f 10) h.refusal_10;
+  refusal_7 = Iff.trans (f 7) h.refusal_7;
+  refusal_10 = Iff.trans (f 10) h.refusal_10;
   no_other = λ r e. h.no_other r ((f r).0 e);
 }
 
@@ -67,11 +68,11 @@ module _
     word_tested =
         record {
           refusal_7 =
-              Iff·trans (is_second good of_good (refusal 7) (λ e. omega (arith, good_only_10 7 e))) (Iff·not (readers_good w));
+              Iff.trans (is_second good of_good (refusal 7) (λ e. omega (arith, good_only_10 7 e))) (Iff.not (readers_good w));
           refusal_10 =
-              Iff·trans (in_first good of_good (refusal 7) (refusal 10) (λ e. omega (arith, same 7 10 e)))
-              (Iff·and (readers_good w)
-              (Iff·trans (is_second fits x (refusal 10) (served 10)) (not_below (total (chain_of w)) (2 ^ 64))));
+              Iff.trans (in_first good of_good (refusal 7) (refusal 10) (λ e. omega (arith, same 7 10 e)))
+              (Iff.and (readers_good w)
+              (Iff.trans (is_second fits x (refusal 10) (served 10)) (not_below (total (chain_of w)) (2 ^ 64))));
           no_other =
               λ r e.
               ⊎_elim (λ (f : of_good ≡ refusal r). inr (good_only_10 r f))
@@ -97,7 +98,7 @@ module _ (w : Word) (places : ℕ) where
   pub parted_too_little : (parted_of w places ≡ parted.Refused 1) ↔ (places < 64)
   unfolding parted_of
   parted_too_little =
-      Iff·trans
+      Iff.trans
       (is_first (ltb places 64) (parted.Refused 1) _
       (λ e. ⊎_elim (λ (f : 1 ≡ 7). omega arith) (λ (f : 1 ≡ 10). omega arith) (by_tests.no_other 1 e)))
       (ltb→lt places 64, lt→ltb places 64)
@@ -119,9 +120,9 @@ pub record RecordRefusals (l : List ℕ) (refused : ℕ → Type 0) : Type 0 whe
 -- The same of an answer that is refused exactly when another one is.
 pub record_lifted : {l : List ℕ} {p q : ℕ → Type 0} → ((r : ℕ) → q r ↔ p r) → RecordRefusals l p → RecordRefusals l q
 record_lifted f h = record {
-  refusal_8 = Iff·trans (f 8) h.refusal_8;
-  refusal_9 = Iff·trans (f 9) h.refusal_9;
-  refusal_10 = Iff·trans (f 10) h.refusal_10;
+  refusal_8 = Iff.trans (f 8) h.refusal_8;
+  refusal_9 = Iff.trans (f 9) h.refusal_9;
+  refusal_10 = Iff.trans (f 10) h.refusal_10;
   no_other = λ r e. h.no_other r ((f r).0 e);
 }
 
@@ -155,10 +156,10 @@ outside_test l = by_length (ltb 64 (length l)) (ltb→lt 64 (length l), lt→ltb
     by_length false h g = (λ t. inr (g.0 t), ⊎_elim (λ (m : 64 < length l). absurd (h.1 m)) g.1)
 
 not_chained : (c : List Part) → T (not (chained_test c)) ↔ (¬ Chained c)
-not_chained c = Iff·trans (T_not (chained_test c), not_T (chained_test c)) (Iff·not (chained_test_lem c))
+not_chained c = Iff.trans (T_not (chained_test c), not_T (chained_test c)) (Iff.not (chained_test_lem c))
 
 is_chained : (c : List Part) → (¬ T (not (chained_test c))) ↔ Chained c
-is_chained c = Iff·trans (sure (chained_test c)) (chained_test_lem c)
+is_chained c = Iff.trans (sure (chained_test c)) (chained_test_lem c)
   where
     sure : (b : Bool) → (¬ T (not b)) ↔ T b
     sure true = (λ _. tt, λ _ t. t)
@@ -211,21 +212,21 @@ module _ (l : List ℕ) where
   judged_refusals =
       record {
         refusal_8 =
-            Iff·trans
+            Iff.trans
             (is_first outside (refuse 8) inside
             (λ e. ⊎_elim (λ (f : 8 ≡ 9). omega arith) (λ (f : 8 ≡ 10). omega arith) (inside_only 8 e)))
             (outside_test l);
         refusal_9 =
-            Iff·trans (in_second outside (refuse 8) inside (refuse 9) (λ e. omega (arith, same 8 9 e)))
-            (Iff·and (Iff·not (outside_test l))
-            (Iff·trans (is_first loose (refuse 9) summed (λ e. omega (arith, summed_only 9 e))) (not_chained c)));
+            Iff.trans (in_second outside (refuse 8) inside (refuse 9) (λ e. omega (arith, same 8 9 e)))
+            (Iff.and (Iff.not (outside_test l))
+            (Iff.trans (is_first loose (refuse 9) summed (λ e. omega (arith, summed_only 9 e))) (not_chained c)));
         refusal_10 =
-            Iff·trans (in_second outside (refuse 8) inside (refuse 10) (λ e. omega (arith, same 8 10 e)))
+            Iff.trans (in_second outside (refuse 8) inside (refuse 10) (λ e. omega (arith, same 8 10 e)))
             (flat
-            (Iff·not (outside_test l))
-            (Iff·trans (in_second loose (refuse 9) summed (refuse 10) (λ e. omega (arith, same 9 10 e)))
-            (Iff·and (is_chained c)
-            (Iff·trans (is_first over (refuse 10) sum (no_sum 10)) (leb→le limit (total c), le→leb limit (total c))))));
+            (Iff.not (outside_test l))
+            (Iff.trans (in_second loose (refuse 9) summed (refuse 10) (λ e. omega (arith, same 9 10 e)))
+            (Iff.and (is_chained c)
+            (Iff.trans (is_first over (refuse 10) sum (no_sum 10)) (leb→le limit (total c), le→leb limit (total c))))));
         no_other =
             λ r e.
             ⊎_elim (λ (f : refuse 8 ≡ refuse r). inl (sym (same 8 r f))) (λ (f : inside ≡ refuse r). inr (inside_only r f))
@@ -252,7 +253,7 @@ module _ (l : List ℕ) (places : ℕ) where
   pub written_too_little : (written_of l places ≡ written.Refused 1) ↔ (places < 64)
   unfolding written_of
   written_too_little =
-      Iff·trans
+      Iff.trans
       (is_first (ltb places 64) (written.Refused 1) (letters_of l (judged_of l))
       (λ e.
       ⊎_elim (λ (f : 1 ≡ 8). omega arith)

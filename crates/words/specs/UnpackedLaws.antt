@@ -11,7 +11,7 @@ use Rattle.std.proofs.lemmas.Nat.{ones-le, mod-pow-add}
 use Rattle.std.proofs.lemmas.List.{length-replicate}
 use Rattle.chains.specs.Chains.{Part}
 use Rattle.chains.specs.Words.{Word, chain_from, chain_of}
-use Rattle.chains.specs.Marks.{point, chain_step}
+use Rattle.chains.proofs.Marks.{point, chain_step}
 use Rattle.words.specs.Packed.{unpacked, packed_chain}
 use Rattle.words.specs.Walks.{point_at}
 

@@ -11,8 +11,8 @@ use Rattle.std.proofs.lemmas.List.{length-map}
 use borrow.Author.Tests.{lt-ltb, le-ltb, lt-leb}
 use Rattle.chains.specs.Chains.{Part, value, total, ChainOf}
 use Rattle.chains.specs.Words.{Word, word_of, chain_of, reads}
-use Rattle.chains.specs.RoundTrip.{chain_word_chain, word_reads}
-use Rattle.chains.specs.Bounds.{parts_bound}
+use Rattle.chains.proofs.RoundTrip.{chain_word_chain, word_reads}
+use Rattle.chains.proofs.Bounds.{parts_bound}
 use Rattle.parts.specs.Parts.{limit, part_number}
 use Rattle.parts.specs.Numbers.{parts_complete, part_of_number, number_of_part}
 use Rattle.lent.specs.Lent.{filled}

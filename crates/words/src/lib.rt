@@ -1,4 +1,6 @@
 // Path words: which are good, what number a word stands for. Records: what they get, and their words.
+#![tactic(auto)]
+
 mod entries;
 mod letters;
 mod packing;

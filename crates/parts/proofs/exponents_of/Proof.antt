@@ -10,10 +10,10 @@ use lib.Dec.{T, eqb, eqb→eq}
 use lib.Pow.{pow_pos}
 use borrow.Author.Rules.{rules}
 use Rattle.chains.specs.Chains.{Part, value}
-use Rattle.chains.specs.Divides.{value_pos}
+use Rattle.chains.proofs.Divides.{value_pos}
 use Rattle.parts.specs.Parts.{limit}
 use Rattle.parts.specs.Tests.{below, at_below}
-use Rattle.chains.specs.Bounds.{part_bounds}
+use Rattle.chains.proofs.Bounds.{part_bounds}
 use Rattle.parts.proofs.exponents_of.Statement.{statement}
 use Rattle.parts.proofs.exponents_of.Tie as tie
 

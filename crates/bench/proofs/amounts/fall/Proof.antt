@@ -4,8 +4,8 @@ use Prim.Native.Nat.{ℕ, ◌+◌}
 use native.Mathlib.Omega.{arith}
 use borrow.Author.Rules.{rules}
 use Rattle.moves.specs.Amounts.{low_bit}
-use Rattle.moves.specs.BitLaws.{low_bounds}
-use Rattle.moves.specs.AmountLaws.{fall_none, fall_first, fall_second}
+use Rattle.moves.proofs.BitLaws.{low_bounds}
+use Rattle.moves.proofs.AmountLaws.{fall_none, fall_first, fall_second}
 use Rattle.bench.proofs.amounts.fall.Statement.{statement}
 use Rattle.bench.proofs.amounts.fall.Tie as tie
 

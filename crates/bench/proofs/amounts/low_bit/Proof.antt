@@ -2,7 +2,7 @@
 use native.Mathlib.Omega.{arith}
 use borrow.Author.Rules.{rules}
 use Rattle.moves.specs.Amounts.{low_bit}
-use Rattle.moves.specs.BitLaws.{shl_one, trailing_some}
+use Rattle.moves.proofs.BitLaws.{shl_one, trailing_some}
 use Rattle.bench.proofs.amounts.low_bit.Statement.{statement}
 use Rattle.bench.proofs.amounts.low_bit.Tie as tie
 

@@ -3,8 +3,8 @@ use mathlib.Core.Path.{ap, sym}
 use Prim.Native.Nat.{ℕ, ◌/◌}
 use native.Mathlib.Omega.{arith}
 use borrow.Author.Rules.{rules}
-use Rattle.moves.specs.BitLaws.{half_top}
-use Rattle.moves.specs.AmountLaws.{gap_top, rise_none, rise_first, rise_stuck, rise_second}
+use Rattle.moves.proofs.BitLaws.{half_top}
+use Rattle.moves.proofs.AmountLaws.{gap_top, rise_none, rise_first, rise_stuck, rise_second}
 use Rattle.bench.proofs.amounts.rise.Statement.{statement}
 use Rattle.bench.proofs.amounts.rise.Tie as tie
 

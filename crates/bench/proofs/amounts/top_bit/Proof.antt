@@ -2,7 +2,7 @@
 use native.Mathlib.Omega.{arith}
 use borrow.Author.Rules.{rules}
 use Rattle.moves.specs.Amounts.{top_bit}
-use Rattle.moves.specs.BitLaws.{shl_one, leading_some}
+use Rattle.moves.proofs.BitLaws.{shl_one, leading_some}
 use Rattle.bench.proofs.amounts.top_bit.Statement.{statement}
 use Rattle.bench.proofs.amounts.top_bit.Tie as tie
 

@@ -5,7 +5,7 @@ use native.Mathlib.Omega.{arith}
 use borrow.Author.Rules.{rules}
 use Rattle.moves.specs.Amounts.{low_bit}
 use Rattle.moves.specs.Changes.{past_of}
-use Rattle.moves.specs.ChangeLaws.{past_one, past_two}
+use Rattle.moves.proofs.ChangeLaws.{past_one, past_two}
 use Rattle.bench.proofs.moving.past.Statement.{statement}
 use Rattle.bench.proofs.moving.past.Tie as tie
 

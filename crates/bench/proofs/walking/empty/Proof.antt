@@ -1,7 +1,7 @@
 -- `empty` keeps row + 3 × above; every turn is a move, which takes from the upper row, and the moves that are left complete the phase.
 use native.Mathlib.Omega.{arith}
 use borrow.Author.Rules.{rules}
-use Rattle.moves.specs.WalkLoops.{Emptying, emptying_start, emptying_fall, emptying_end}
+use Rattle.moves.proofs.WalkLoops.{Emptying, emptying_start, emptying_fall, emptying_end}
 use Rattle.bench.proofs.walking.empty.Statement.{statement}
 use Rattle.bench.proofs.walking.empty.Tie as tie
 

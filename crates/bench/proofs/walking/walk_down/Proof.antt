@@ -3,7 +3,7 @@ use mathlib.Core.Path.{◌≡◌}
 use native.Mathlib.Omega.{arith}
 use lib.ListN.{length-set}
 use borrow.Author.Rules.{rules}
-use Rattle.moves.specs.WalkLoops.{Walking, walking_start, walking_rows, walking_step, walking_end}
+use Rattle.moves.proofs.WalkLoops.{Walking, walking_start, walking_rows, walking_step, walking_end}
 use Rattle.bench.proofs.walking.walk_down.Statement.{statement}
 use Rattle.bench.proofs.walking.walk_down.Tie as tie
 

@@ -1,6 +1,6 @@
 -- `rows::count_in` meets its contract: the first cell of row 0 has the count, but for the number 0.
 use Rattle.std.proofs.Common.{sym, arith}
-use Rattle.chains.specs.Counts.{count_0}
+use Rattle.chains.proofs.Counts.{count_0}
 use Rattle.counting.specs.CellLaws.{count_in_lem}
 use Rattle.counting.proofs.rows.count_in.Statement.{statement}
 use Rattle.counting.proofs.rows.count_in.Tie as tie

@@ -11,7 +11,7 @@ use Rattle.grid.specs.Rests.{half_of_rest, third_of_rest}
 use Rattle.grid.specs.Masks.{ones_of, zeros_of}
 use Rattle.grid.specs.MaskLaws.{ones_bit, zeros_bit}
 use Rattle.grid.specs.Fill.{ahead_all, ahead_still, column, read_above}
-use Rattle.chains.specs.Counts.{ways_at_most}
+use Rattle.chains.proofs.Counts.{ways_at_most}
 use Rattle.counting.specs.Table.{count_cell, LiveAsked}
 use Rattle.counting.proofs.rows.fill_live.Statement.{statement}
 use Rattle.counting.proofs.rows.fill_live.Tie as tie

@@ -4,7 +4,7 @@ use Rattle.std.proofs.Common.{◌≡◌, ℕ, zero, suc, ◌+◌, ◌*◌, ◌/�
 use borrow.Fn.Kinds.{In}
 use borrow.Fn.PlainCycle.{Measures, is, falls, and}
 use Rattle.chains.specs.Listing.{count}
-use Rattle.chains.specs.Counts.{count_at_most, count_0, count_1, count_first_line, count_6U+2, count_6U+3, count_6U+4, count_6U+5}
+use Rattle.chains.proofs.Counts.{count_at_most, count_0, count_1, count_first_line, count_6U+2, count_6U+3, count_6U+4, count_6U+5}
 use Rattle.counting.proofs.six_lines.count_of.Reads as count-of
 use Rattle.counting.proofs.six_lines.count_of.Kinds as count-of-kinds
 use Rattle.counting.proofs.six_lines.+count_of.Lts-count_of as count-of-lts

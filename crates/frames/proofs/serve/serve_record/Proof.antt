@@ -10,7 +10,7 @@ use borrow.Author.Rules.{rules}
 use lib.ListN.{length, length-map}
 use Rattle.lent.specs.LentLaws.{scratch_enough}
 use Rattle.lent.specs.Lent.{scratch_size, little_scratch, scratch_left, memory_left}
-use Rattle.chains.specs.Bounds.{parts_bound}
+use Rattle.chains.proofs.Bounds.{parts_bound}
 use Rattle.parts.specs.Parts.{part_number}
 use Rattle.ranking.specs.Services.{Outcome, refused, gives, lent_scratch, placed_of, of_record}
 use Rattle.ranking.specs.Outcomes.{record_gives}

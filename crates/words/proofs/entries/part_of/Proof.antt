@@ -5,7 +5,7 @@ use Prim.Native.Nat.{ℕ, ◌/◌, ◌%◌, ◌<◌}
 use native.Mathlib.Omega.{arith}
 use lib.ListN.{length, get_or}
 use borrow.Author.Rules.{rules}
-use Rattle.chains.specs.Divides.{same_part_lem}
+use Rattle.chains.proofs.Divides.{same_part_lem}
 use Rattle.parts.specs.Parts.{part_at}
 use Rattle.parts.specs.Codes.{codes}
 use Rattle.parts.specs.CodeLaws.{codes_count, part_bounded, code_a, code_b}

@@ -6,7 +6,7 @@ use native.Mathlib.Nat.{mul_comm, mod-eq_of_lt}
 use native.Mathlib.Omega.{arith}
 use lib.ListN.{length, get_or}
 use Rattle.chains.specs.Chains.{Part, value}
-use Rattle.chains.specs.Bounds.{part_bounds}
+use Rattle.chains.proofs.Bounds.{part_bounds}
 use Rattle.parts.specs.Codes.{powers}
 use Rattle.parts.specs.CodeLaws.{powers_count, power_at}
 use Rattle.words.proofs.entries.value_at.Statement.{statement}

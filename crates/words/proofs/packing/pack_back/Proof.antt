@@ -17,7 +17,8 @@ use lib.Seq.{drop-cons}
 use borrow.Author.Rules.{rules}
 use borrow.Author.Tests.{not-true, not-false, ltb-true, ltb-false, lt-leb}
 use Rattle.chains.specs.Chains.{Part, value, ProperMultiple, Chained, total}
-use Rattle.chains.specs.Divides.{Above, value_pos, same_part_lem, multiple_above}
+use Rattle.chains.specs.Divides.{Above}
+use Rattle.chains.proofs.Divides.{value_pos, same_part_lem, multiple_above}
 use Rattle.chains.specs.Words.{Word, origin, path, marked, walk, word_of}
 use Rattle.parts.specs.Parts.{limit, part_at}
 use Rattle.parts.specs.Numbers.{parts_ascend, part_value, part_below}

@@ -13,7 +13,8 @@ use lib.Seq.{drop-cons}
 use borrow.Author.Rules.{rules}
 use borrow.Author.Tests.{not-true, not-false}
 use Rattle.chains.specs.Chains.{Part, value}
-use Rattle.chains.specs.Divides.{Above, value_pos, multiple_above}
+use Rattle.chains.specs.Divides.{Above}
+use Rattle.chains.proofs.Divides.{value_pos, multiple_above}
 use Rattle.parts.specs.Parts.{part_at}
 use Rattle.words.specs.Records.{record_parts, chained_test}
 use Rattle.words.specs.RecordLaws.{number_known, test_multiple}

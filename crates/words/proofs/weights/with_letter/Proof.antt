@@ -6,7 +6,7 @@ use native.Mathlib.Omega.{arith}
 use borrow.Author.Rules.{rules}
 use Rattle.chains.specs.Chains.{total}
 use Rattle.chains.specs.Words.{Word, chain_of}
-use Rattle.chains.specs.Weight.{weight, total_chain_of}
+use Rattle.chains.proofs.Weight.{weight, total_chain_of}
 use Rattle.words.specs.Answers.{sized, weighed_of}
 use Rattle.words.specs.declared.Weighed.{Weighed}
 use Rattle.words.specs.declared.Weighed.TheVariants.{Number}
