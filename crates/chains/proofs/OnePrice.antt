@@ -2,11 +2,11 @@
 -- it before (`one_price`), and so a chain is best by the one exactly if it is best by the other (`best_by_one_price`).
 --
 -- The earlier price is in specs/OnePrice.antt. The best chain as a function stands last (`one_price_chosen`).
-use Rattle.std.specs.Prelude.{◌≡◌, refl, ◌↔◌, Bool, true, false, cond, List, [], ◌∷◌, ℕ, ◌+◌, ◌*◌, ltb, length}
+use Rattle.std.specs.Prelude.{◌≡◌, refl, ◌↔◌, Bool, true, false, cond, List, [], ◌∷◌, ℕ, ◌*◌, ltb, length}
 use Rattle.std.proofs.Common.{sym, mul-suc, arith}
 use Rattle.std.proofs.Math.Option.{Option, none, some}
 use Rattle.chains.specs.Chains.{Part, Chained, ChainOf}
-use Rattle.chains.specs.Best.{Prices, price, Limits, Ahead, IsBest, best_chain}
+use Rattle.chains.specs.Best.{price, Limits, Ahead, IsBest, best_chain}
 use Rattle.chains.specs.OnePrice.{earlier_price, s_for_both}
 use Rattle.chains.proofs.BestLaws.{Answers, answers, is_first}
 use Rattle.chains.specs.Neighbours.{by_neighbours}

@@ -1,6 +1,6 @@
 -- Chains cut in two and put together: what a move asks of the chain condition.
 -- In this order: parts that stand above each other; every part before and after a cut; a chain with other parts after a cut.
-use Rattle.std.specs.Prelude.{◌≡◌, refl, List, [], ◌∷◌, ◌++◌, ◌+◌, ◌≤◌, ◌<◌}
+use Rattle.std.specs.Prelude.{◌≡◌, refl, List, [], ◌∷◌, ◌++◌, ◌≤◌, ◌<◌}
 use Rattle.std.proofs.Common.{arith}
 use Rattle.chains.specs.Chains.{Part, Chained}
 use Rattle.chains.specs.Divides.{Above}

@@ -6,7 +6,7 @@ pub mod Chaining
 pub mod UpChains
 pub mod RowsOf
 pub mod Layouts
-pub mod Tie
+pub mod ChainRows
 pub mod RowLaws
 pub mod RowMoveLaws
 pub mod Phases

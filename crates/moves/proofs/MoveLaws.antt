@@ -1,7 +1,7 @@
 -- What holds of the moves of a chain of n, a number below 2^64: document 02, T-08.
 -- In this order: chains and their rows; the tie, that a move of a chain is a move of its rows and the other way round; the theorems of
 -- record: a move keeps a chain of n, a move down is a move up undone, kind, direction and row determine the result.
-use Rattle.std.specs.Prelude.{◌≡◌, refl, ◌↔◌, Bool, List, [], ◌∷◌, ◌++◌, ℕ, suc, ◌+◌, ◌^◌, ◌≤◌, ◌<◌, length}
+use Rattle.std.specs.Prelude.{◌≡◌, refl, ◌↔◌, Bool, List, [], ◌∷◌, ◌++◌, ℕ, suc, ◌^◌, ◌≤◌, ◌<◌, length}
 use Rattle.std.proofs.Common.{sym, ap, ◌∙◌, arith}
 use Rattle.std.proofs.Math.Bool.{true, false}
 use Rattle.chains.specs.Chains.{Part, value, Chained, total, ChainOf}
@@ -14,7 +14,7 @@ use Rattle.moves.proofs.ChangeLaws.{up_found, down_found}
 use Rattle.moves.proofs.Layouts.{LaidOut, laid_out, laid_out_none, length_rows, ChainFor, chain_for, rows_unique}
 use Rattle.moves.proofs.Chaining.{every_map, every_append}
 use Rattle.moves.proofs.UpChains.{up_chained, up_total}
-use Rattle.moves.proofs.Tie.{up_rows, rows_up, every_of}
+use Rattle.moves.proofs.ChainRows.{up_rows, rows_up, every_of}
 
 -- ---- chains and their rows
 

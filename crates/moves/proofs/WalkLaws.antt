@@ -3,7 +3,7 @@
 -- number of points with b at least 1 and 2^a × 3^b at most n, so at most 1,280, and it ends at the binary chain of n, which has as
 -- many parts as n has one bits. So the only chain of a number with one chain is the binary one (T-11).
 -- That a step takes the smallest part of the highest row is in Steps.
-use Rattle.std.specs.Prelude.{◌≡◌, refl, List, [], ◌∷◌, ℕ, zero, suc, ◌+◌, ◌-◌, ◌^◌, ◌≤◌, ◌<◌, drop}
+use Rattle.std.specs.Prelude.{◌≡◌, refl, List, [], ◌∷◌, ℕ, zero, suc, ◌+◌, ◌^◌, ◌≤◌, ◌<◌, drop}
 use Rattle.std.proofs.Math.Path.{sym, ap}
 use Rattle.std.proofs.Common.{◌∙◌, arith, pow_pos}
 use Rattle.std.proofs.Math.Bool.{false}

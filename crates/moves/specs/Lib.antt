@@ -8,7 +8,7 @@
 --   WalkLaws     every chain of n has one walk; its bound, and the binary chain at its end
 --   Deciding     whether there is a move, and whether rows are those of a chain of n
 -- On the way to them, on chains: Chaining (chains cut in two), UpChains (a move up gives a chain), RowsOf (the rows of a list of parts),
--- Layouts (one layout for each chain, and one chain for each), Tie (moves up, from the chain to its rows and back).
+-- Layouts (one layout for each chain, and one chain for each), ChainRows (moves up, from the chain to its rows and back).
 -- On rows:
 --   RowMoves     the moves of rows: definitions        RowLaws, RowMoveLaws   their laws
 --   Walks        the walk of rows: definitions         Phases, Ends           two rows; the whole walk

@@ -90,7 +90,7 @@ pub same_part_lem : (p q : Part) → (same_part p q ≡ true) ↔ (p ≡ q)
 unfolding same_part
 same_part_lem p q = (
   λ e. let (a, b) = (and-eq-true_iff (eqb p.a q.a) (eqb p.b q.b)).0 e in
-      divides.same_part p q (eqb-true p.a q.a a) (eqb-true p.b q.b b),
+      divides.same_part_lem p q (eqb-true p.a q.a a) (eqb-true p.b q.b b),
   λ e. rw (e, eq-eqb q.a q.a refl, eq-eqb q.b q.b refl),
 )
 
