@@ -1,0 +1,22 @@
+-- `live_columns` meets its contract: the leading zeros and the length in bits make 64.
+use mathlib.Core.Path.{◌≡◌}
+use Prim.Native.Nat.{◌-◌, ◌^◌, ◌<◌}
+use native.Mathlib.Omega.{arith}
+use lib.Count.{count_leading_zeros, leading_le, leading_length}
+use Rattle.grid.proofs.live_columns.Goals as goal
+
+pub overflow_cast-result : goal.overflow_cast-result
+overflow_cast-result c =
+    omega (arith, leading_le 64 c.args.m)
+
+pub overflow_sub-result : goal.overflow_sub-result
+overflow_sub-result c =
+    omega (arith, leading_le 64 c.args.m)
+
+pub returns : goal.returns
+returns c =
+    let m = c.args.m in
+    let fits : m < 2 ^ 64 = omega arith in
+    let l = leading_length 64 m fits in
+    let e : 64 - count_leading_zeros 64 m ≡ l.0 = omega (arith, l.1) in
+    rw e (omega (arith, l.1), l.2, l.3)
