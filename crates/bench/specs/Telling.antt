@@ -1,6 +1,6 @@
 -- What `tell_rows` may be lent and what it tells; the parts of rows.
 -- Definitions only. The laws are in TellingLaws.
-use Rattle.std.specs.Prelude.{◌≡◌, cond, List, [], ◌∷◌, ◌++◌, map, ℕ, zero, suc, ◌≤◌, ◌<◌, ◌+◌, ◌-◌, ◌^◌, leb, get_or, length, take}
+use Rattle.std.specs.Prelude.{◌≡◌, cond, List, [], ◌∷◌, ◌++◌, map, ℕ, zero, suc, ◌≤◌, ◌<◌, ◌-◌, ◌^◌, leb, get_or, length, take}
 use Rattle.chains.specs.Chains.{Part, Chained, total}
 use Rattle.lent.specs.Lent.{zeros, filled}
 use Rattle.moves.specs.Rows.{rows_of, Rows}

@@ -1,0 +1,106 @@
+-- `back::walk_back` meets its contract: each turn passes the highest bit of what is left of the path, the letter where b rises last,
+-- and fills its row.
+use Rattle.std.proofs.Common.{◌≡◌, ℕ, suc, ◌+◌, ◌-◌, ◌/◌, ◌%◌, ◌^◌, ◌<◌, ◌≤◌, false, List, length, ◌∙◌, mod-eq_of_lt, arith, rules}
+use mathlib.Core.List.{Memᴰ}
+use lib.Count.{ones, ones-le}
+use Rattle.chains.specs.Words.{Word}
+use Rattle.chains.specs.Listing.{list_of, count_before, ways}
+use Rattle.lent.specs.LentLaws.{used_none, used_on}
+use Rattle.grid.specs.Grid.{rest_at}
+use Rattle.counting.specs.Table.{CountRows, CountsFilled}
+use Rattle.counting.specs.Back.{TopOf, BackAsked, path_to, turned, BackAt, Going}
+use Rattle.counting.specs.BackLaws.{top_ones, top_place, back_start, back_more, back_can, back_next, back_fits, back_end}
+use Rattle.counting.proofs.back.walk_back.Goals as goal
+
+begin : {n path b : ℕ} {scratch : List ℕ} → n < 2 ^ 64 → BackAsked n path b scratch → Going n path scratch scratch path b 0
+begin f a =
+    record {
+      rows = record { rows = a.rows; used = used_none };
+      rises = a.rises;
+      low = a.low;
+      along = λ w m h e. rw e (back_start f m h);
+    }
+
+-- A turn passes the bit `bit`.
+module _ {n path : ℕ} {entry scratch : List ℕ} {left row before bit below : ℕ} (fits : n < 2 ^ 64)
+    (g : Going n path entry scratch left row before) (t : TopOf left bit below) (last : bit < 64) where
+  down : row - 1 ≡ ones below
+  down = omega (arith, g.rises, top_ones t)
+
+  some_row : 1 ≤ row
+  some_row = omega (arith, g.rises, top_ones t)
+
+  column : row - 1 ≤ bit
+  column = omega (arith, down, top_place t)
+
+  asked : CountRows n (suc (row - 1)) scratch × (bit - (row - 1) < 64) × (row - 1 < 41)
+  asked =
+      let e : row ≡ suc (row - 1) = omega (arith, some_row) in
+      (rw e at g.rows.rows, omega arith, omega (arith, g.low))
+
+  module _ {r sum : ℕ} {l : List ℕ}
+      (told : 2 ≤ rest_at n (bit - (row - 1)) (row - 1) → rest_at n (bit - (row - 1)) (row - 1) % 3 ≤ 1
+      → r ≡ ways false (rest_at n (bit - (row - 1)) (row - 1) / 2))
+      (filled : CountsFilled n (row - 1) scratch l) (added : sum ≡ (before + r) % 2 ^ 64) where
+    counted : (w : Word) → Memᴰ w (list_of n) → 0 < length w → path ≡ path_to w (length w - 1) → BackAt n w below sum
+    counted w m h e =
+        let k = g.along w m h e in
+        let is : r ≡ turned n below bit = rw down at told (back_more fits m k t) (back_can fits m k t) in
+        let exact : sum ≡ before + turned n below bit = added ∙ rw is (mod-eq_of_lt (back_fits fits m k t)) in
+        rw exact (back_next fits m k t)
+
+    more : Going n path entry l below (row - 1) sum
+    more =
+        record {
+          rows = record { rows = filled.rows; used = used_on g.rows.used filled.used };
+          rises = down;
+          low = omega (arith, g.low);
+          along = counted;
+        }
+
+-- Nothing is left of the path.
+module _ {n path : ℕ} {entry scratch : List ℕ} {left row before : ℕ} (fits : n < 2 ^ 64)
+    (g : Going n path entry scratch left row before) (h : left ≤ 0) where
+  none : left ≡ 0
+  none = omega arith
+
+  bottom : CountsFilled n 0 entry scratch
+  bottom =
+      let e : row ≡ 0 = g.rises ∙ rw none (omega (arith, ones-le 0 0 (omega arith))) in
+      rw e at g.rows
+
+  all_counted : (w : Word) → Memᴰ w (list_of n) → 0 < length w → path ≡ path_to w (length w - 1) → before ≡ count_before w (list_of n)
+  all_counted w m l e = back_end fits m (rw none at (g.along w m l e))
+
+pub loop-left-init : goal.loop-left-init
+loop-left-init c =
+    begin (search rules) c.requires
+
+pub overflow_sub-row : goal.overflow_sub-row
+overflow_sub-row c =
+    some_row {n = c.args.n} (search rules) c.loop-left.invariant c.top_of-top.ensures.0 c.top_of-top.ensures.1
+
+pub overflow_sub-top : goal.overflow_sub-top
+overflow_sub-top c =
+    column (search rules) c.loop-left.invariant c.top_of-top.ensures.0 c.top_of-top.ensures.1
+
+pub rising_a-rising-requires : goal.rising_a-rising-requires
+rising_a-rising-requires c =
+    asked (search rules) c.loop-left.invariant c.top_of-top.ensures.0 c.top_of-top.ensures.1
+
+pub loop-left-smaller : goal.loop-left-smaller
+loop-left-smaller c =
+    omega (arith, some_row {n = c.args.n} (search rules) c.loop-left.invariant c.top_of-top.ensures.0 c.top_of-top.ensures.1)
+
+pub loop-left-preserved : goal.loop-left-preserved
+loop-left-preserved c =
+    more (search rules) c.loop-left.invariant c.top_of-top.ensures.0 c.top_of-top.ensures.1 c.rising_a-rising.ensures.value c.rising_a-rising.ensures.counts_filled
+    c.wrapping_add_u64-before.ensures.value
+
+pub shape_of-scratch : goal.shape_of-scratch
+shape_of-scratch c =
+    (bottom (search rules) c.loop-left.invariant c.loop-left-test.false).used.same
+
+pub returns : goal.returns
+returns c =
+    record { value = all_counted (search rules) c.loop-left.invariant c.loop-left-test.false; counts_filled = bottom (search rules) c.loop-left.invariant c.loop-left-test.false }

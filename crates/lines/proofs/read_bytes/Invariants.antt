@@ -1,0 +1,10 @@
+-- `read_bytes` writes the values one after the other: after i turns the first i stand. The measure is the number that is left.
+use Prim.Native.Nat.{◌-◌, ◌≤◌}
+use Rattle.lines.proofs.Fields.{Stand}
+use Rattle.lines.proofs.read_bytes.Given as goal
+
+abbrev pub invariant-loop-i : goal.invariant-loop-i
+invariant-loop-i l = (l.i ≤ l.count) × Stand l.line l.from 1 l.initial.letters l.letters l.i
+
+abbrev pub decreases-loop-i : goal.decreases-loop-i
+decreases-loop-i l = l.count - l.i
