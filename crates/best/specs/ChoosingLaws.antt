@@ -112,7 +112,7 @@ module _ {n : ℕ} (lim : Limits) (π : Prices) (fits : n < 2 ^ 64) (cheap : Che
 pub record Begun (costs : List ℕ) (n : ℕ) (lim : Limits) (π : Prices) (scratch : List ℕ) : Type 0 where
   pub costs_are : costs ≡ letter_costs π
   pub fits : n < 2 ^ 64
-  pub some_left_lem : 1 ≤ n
+  pub some_left : 1 ≤ n
   pub cheap : Cheap π
   pub byte : lim.K < 2 ^ 8
   pub size : scratch_size ≤ length scratch
@@ -151,7 +151,7 @@ module _ {costs : List ℕ} {n : ℕ} {lim : Limits} {π : Prices} {entry : List
               rests = f.keys.rows.rests;
               turns = λ r k. f.keys.turns r (omega arith) k;
             };
-            some_left_lem = b.some_left;
+            some_left = b.some_left;
             found = found;
           }
 

@@ -42,7 +42,7 @@ best_word costs A B n = word_in (best_from costs A B true 0 0 n)
 -- The walk stands at (a, b), where `rest` is left of n. The best word from there on is what is left of the best word of n.
 pub record KeyWalked (costs : List ℕ) (A B n a b : ℕ) (free : Bool) (rest : ℕ) : Type 0 where
   pub here : rest ≡ rest_at n a b
-  pub some_left_lem : 1 ≤ rest
+  pub some_left : 1 ≤ rest
   pub low : key_cell costs A B a b free rest < no_key
   pub follows : best_from costs A B free a b rest ≡ some (drop (a + b) (best_word costs A B n))
 
@@ -64,7 +64,7 @@ pub record KeyStep (costs : List ℕ) (A B n : ℕ) (scratch : List ℕ) (a b : 
 -- What the whole walk asks: the rests and the turns, that something is left, and that there is a word.
 pub record KeyStart (costs : List ℕ) (A B n : ℕ) (scratch : List ℕ) : Type 0 where
   pub turned : Turned costs A B n scratch
-  pub some_left_lem : 1 ≤ n
+  pub some_left : 1 ≤ n
   pub found : key_cell costs A B 0 0 true n < no_key
 
 -- ---- the bits of the letters

@@ -48,7 +48,7 @@ walk_start {costs} {A} {B} {n} s =
     record {
       walked = record {
         here = sym (rest_origin n);
-        some_left_lem = s.some_left;
+        some_left = s.some_left;
         low = s.found;
         follows = best_chosen costs A B n s.found;
       };
@@ -157,7 +157,7 @@ module _
         let v = lead_word l (best_from costs A B g a' b' m) (drop (a + b) (best_word costs A B n)) e in
         let later = drop_more (best_word costs A B n) v.0 (a + b) l v.2 in
         record {
-          walked = record { here = here; some_left_lem = h; low = low; follows = rw (d.0, later) v.1 };
+          walked = record { here = here; some_left = h; low = low; follows = rw (d.0, later) v.1 };
           passed = d.0;
           small = d.1;
           next = rw later v.2;

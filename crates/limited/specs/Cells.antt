@@ -45,13 +45,13 @@ cell_in false costs A B b a m = key_in costs A B b a m
 -- One number of a block of counts, where k parts are allowed, or all of them up to k.
 pub record CountAsked (m up k : ℕ) (l : List ℕ) : Type 0 where
   pub lent : BlockLent (count_in (m / 2)) (count_in (m / 3)) m up (suc k) l
-  pub some_left_lem : 1 ≤ m
+  pub some_left : 1 ≤ m
   pub few : k < 65
 
 -- The same of keys, at a point within the limits.
 pub record KeyAsked (costs : List ℕ) (A B b a m up k : ℕ) (l : List ℕ) : Type 0 where
   pub lent : BlockLent (key_in costs A B b (suc a) (m / 2)) (key_in costs A B (suc b) a (m / 3)) m up (suc k) l
-  pub some_left_lem : 1 ≤ m
+  pub some_left : 1 ≤ m
   pub few : k < 65
   pub low : Low costs
   pub in_a : a ≤ A
@@ -60,7 +60,7 @@ pub record KeyAsked (costs : List ℕ) (A B b a m up k : ℕ) (l : List ℕ) : T
 -- A block.
 pub record BlockAsked (counting : Bool) (costs : List ℕ) (A B b a m up most : ℕ) (l : List ℕ) : Type 0 where
   pub lent : BlockLent (cell_in counting costs A B b (suc a) (m / 2)) (cell_in counting costs A B (suc b) a (m / 3)) m up (suc most) l
-  pub some_left_lem : 1 ≤ m
+  pub some_left : 1 ≤ m
   pub few : most < 65
   pub low : Low costs
 

@@ -149,7 +149,7 @@ module _ {n : ℕ} (lim : Limits) (π : Prices) (fits : n < 2 ^ 64) where
 pub record Begun (costs : List ℕ) (n : ℕ) (lim : Limits) (π : Prices) (most : ℕ) (scratch : List ℕ) : Type 0 where
   pub costs_are : costs ≡ cheap_list π
   pub fits : n < 2 ^ 64
-  pub some_left_lem : 1 ≤ n
+  pub some_left : 1 ≤ n
   pub cheap : Cheap π
   pub most_is : most ≡ min lim.K 64
   pub size : table_size ≤ length scratch
@@ -179,7 +179,7 @@ module _ {costs : List ℕ} {n : ℕ} {lim : Limits} {π : Prices} {most : ℕ} 
 
     module _ (h : get_or l most 0 < no_key) where
       pub word_asked : WalkStart costs lim.A lim.B most n l
-      word_asked = record { keys = keyed; some_left_lem = b.some_left; found = omega (arith, key_is) }
+      word_asked = record { keys = keyed; some_left = b.some_left; found = omega (arith, key_is) }
 
       pub filled_word : {rises marks : ℕ} → Spelled costs lim.A lim.B most n rises marks
           → WordChosen n lim π rises marks (get_or l most 0 / price_weight)

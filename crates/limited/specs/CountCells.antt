@@ -17,12 +17,12 @@ use Rattle.limited.specs.Cells.{count_in, cell_in, CountAsked, BlockAsked}
 pub count_asked : {counting : Bool} {costs : List ℕ} {A B b a m up most : ℕ} {l : List ℕ} → counting ≡ true
     → BlockAsked counting costs A B b a m up most l → CountAsked m up most l
 unfolding cell_in
-count_asked e q = let p = rw e at q in record { lent = p.lent; some_left_lem = p.some_left; few = p.few }
+count_asked e q = let p = rw e at q in record { lent = p.lent; some_left = p.some_left; few = p.few }
 
 pub count_still : {g : Block} {m up most j : ℕ} {entry l : List ℕ} (k : ℕ) → CountAsked m up most entry → Filled g j entry l → k ≤ most
     → CountAsked m up k l
 count_still k p f h =
-    record { lent = lent_still p.lent f (omega arith); some_left_lem = p.some_left; few = omega (arith, p.few) }
+    record { lent = lent_still p.lent f (omega arith); some_left = p.some_left; few = omega (arith, p.few) }
 
 module _ {m up k : ℕ} {l : List ℕ} (p : CountAsked m up k l) where
   pub count_none : (f : Bool) → k ≡ 0 → 0 ≡ count_in m f k

@@ -24,14 +24,14 @@ pub key_asked : {counting : Bool} {costs : List ℕ} {A B b a m up most : ℕ} {
 unfolding cell_in
 key_asked e ha hb q =
     let p = rw e at q in
-    record { lent = p.lent; some_left_lem = p.some_left; few = p.few; low = p.low; in_a = ha; in_b = hb }
+    record { lent = p.lent; some_left = p.some_left; few = p.few; low = p.low; in_a = ha; in_b = hb }
 
 pub key_still : {g : Block} {costs : List ℕ} {A B b a m up most j : ℕ} {entry l : List ℕ} (k : ℕ)
     → KeyAsked costs A B b a m up most entry → Filled g j entry l → k ≤ most → KeyAsked costs A B b a m up k l
 key_still k p f h =
     record {
       lent = lent_still p.lent f (omega arith);
-      some_left_lem = p.some_left;
+      some_left = p.some_left;
       few = omega (arith, p.few);
       low = p.low;
       in_a = p.in_a;

@@ -34,7 +34,7 @@ pub record FirstBits (f : ℕ → ℕ) (whole word : Word) (letter x : ℕ) : Ty
 -- The walk stands at w. The cheapest word from there on is what is left of the cheapest word of n.
 pub record Walked (costs : List ℕ) (A B most n : ℕ) (w : Walk) : Type 0 where
   pub here : w.rest ≡ rest_at n w.a w.b
-  pub some_left_lem : 1 ≤ w.rest
+  pub some_left : 1 ≤ w.rest
   pub block : w.at ≡ 130 * (start w.b + w.a)
   pub few : w.left ≤ most
   pub low : key_in costs A B w.b w.a w.rest w.free w.left < no_key
@@ -65,7 +65,7 @@ third_of costs A B w =
 -- What the whole walk asks: that something is left, and that there is a word.
 pub record WalkStart (costs : List ℕ) (A B most n : ℕ) (scratch : List ℕ) : Type 0 where
   pub keys : Keyed costs A B most n scratch
-  pub some_left_lem : 1 ≤ n
+  pub some_left : 1 ≤ n
   pub found : key_in costs A B 0 0 n true most < no_key
 
 -- Two numbers have the bits of the cheapest word of n.

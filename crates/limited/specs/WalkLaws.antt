@@ -223,7 +223,7 @@ module _ {costs : List ℕ} {A B most n : ℕ} {scratch : List ℕ} {w : Walk} (
       let v = lead_word l (cheap_from costs A B w'.free w'.a w'.b w'.left w'.rest) s.walked.word e in
       record {
         here = here;
-        some_left_lem = left;
+        some_left = left;
         block = block;
         few = few;
         low = low;
@@ -360,7 +360,7 @@ module _ {costs : List ℕ} {A B most n : ℕ} {scratch : List ℕ} (s : WalkSta
       let t = least_on_told (limited_carried A B) no_key (costs_by costs) (point 0 0, most) true n s.found in
       record {
         here = sym (rest_origin n);
-        some_left_lem = s.some_left;
+        some_left = s.some_left;
         block = refl;
         few = omega arith;
         low = s.found;

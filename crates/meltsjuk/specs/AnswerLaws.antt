@@ -174,21 +174,21 @@ left_zero : (b : List ℕ) → ZeroLeaves (bench.leaves b)
 unfolding bench_status
 left_zero b = (λ _. (b, refl), λ _. refl)
 
-some_left_lem : (r : ℕ) → ¬ (r ≡ 0) → ZeroLeaves (bench.refused r)
+some_left : (r : ℕ) → ¬ (r ≡ 0) → ZeroLeaves (bench.refused r)
 unfolding bench_status
-some_left_lem r h = (
+some_left r h = (
   λ e. absurd (h e),
   λ f. let g = f.1 in let z : ◌≡◌ {A = ℕ} 0 1 = cc in absurd (omega arith),
 )
 
 one_left : ZeroLeaves (bench.refused 1)
-one_left = some_left_lem 1 (λ e. omega arith)
+one_left = some_left 1 (λ e. omega arith)
 
 no_move_left : ZeroLeaves (bench.refused 17)
-no_move_left = some_left_lem 17 (λ e. omega arith)
+no_move_left = some_left 17 (λ e. omega arith)
 
 no_name_left : ZeroLeaves (bench.refused 18)
-no_name_left = some_left_lem 18 (λ e. omega arith)
+no_name_left = some_left 18 (λ e. omega arith)
 
 pub zero_is_opened : (numbers b : List ℕ) → ZeroLeaves (bench.open_outcome numbers b)
 unfolding bench.open_outcome bench.opened_as
@@ -199,7 +199,7 @@ zero_is_opened numbers b =
     go : (j : Judged) → judged_of numbers ≡ j → ZeroLeaves (bench.opened_as numbers b j)
     go (judged.Sum n) e = left_zero _
     go (judged.Refused r) e =
-        some_left_lem r
+        some_left r
         (λ (f : r ≡ 0).
         ⊎_elim (λ (g : r ≡ 8). omega arith) (⊎_elim (λ (g : r ≡ 9). omega arith) (λ (g : r ≡ 10). omega arith))
         ((judged_refusals numbers).no_other r e))

@@ -105,10 +105,10 @@ unfolding binary_in lowest
 enough zero zero m h i = refl
 enough zero (suc j) m h i =
     let e : m ≡ 0 = omega arith in
-    rw e (ap (λ (x : List Part). map right x ++ []) (enough 0 j 0 (omega arith) (omega arith)))
+    rw e (ap (λ (x : List Part). map right x ++ []) (enough zero j 0 (omega arith) (omega arith)))
 enough (suc k) zero m h i =
     let e : m ≡ 0 = omega arith in
-    rw e (ap (λ (x : List Part). map right x ++ []) (enough k 0 0 (omega arith) (omega arith)))
+    rw e (ap (λ (x : List Part). map right x ++ []) (enough k zero 0 (omega arith) (omega arith)))
 enough (suc k) (suc j) m h i =
     ap (λ (x : List Part). map right x ++ lowest (m % 2)) (enough k j (m / 2) (omega arith) (omega arith))
 

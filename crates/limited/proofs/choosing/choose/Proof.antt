@@ -18,7 +18,7 @@ begun c =
     record {
       costs_are = c.letter-costs.ensures.0;
       fits = s.ranges.n.fits;
-      some_left_lem = omega arith;
+      some_left = omega arith;
       cheap = c.letter-costs.ensures.1;
       most_is = m.at_most_64.ensures;
       size = s.requires;

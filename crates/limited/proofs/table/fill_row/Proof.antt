@@ -36,7 +36,7 @@ fill-block-requires c κs =
     let s = l.before.before.before in
     record {
       lent = column_lent s.requires.lent (l.loop.a - 1) l.loop.a (omega arith) (live c.before) l.loop.invariant.0;
-      some_left_lem = live c.before;
+      some_left = live c.before;
       few = s.requires.few;
       low = s.requires.low;
     }

@@ -1,0 +1,45 @@
+-- `fill_live` fills its row: in the column where the rest is 1 a word ends, from the first column outside on there is none; the
+-- columns below follow.
+use Rattle.std.proofs.Common.{refl, arith, rules}
+use Rattle.best.specs.KeyRowsLaws.{within_asked, within_told, beyond_asked, beyond_told}
+use Rattle.best.proofs.keys.fill_live.Goals as goal
+
+pub bounds-part-top : goal.bounds-part-top
+bounds-part-top c =
+    omega (arith, c.requires.asked.room, c.requires.last)
+
+pub fill_below-requires : goal.fill_below-requires
+fill_below-requires c =
+    within_asked c.requires c.if-top-doublings.true
+
+pub returns-then-top-doublings : goal.returns-then-top-doublings
+returns-then-top-doublings c =
+    within_told c.requires c.if-top-doublings.true c.fill_below.ensures
+
+pub overflow_add-start : goal.overflow_add-start
+overflow_add-start c =
+    omega (arith, c.if-top-doublings.false, c.requires.last)
+
+pub overflow_add-top : goal.overflow_add-top
+overflow_add-top c =
+    omega (arith, c.requires.last)
+
+pub fill_none-requires : goal.fill_none-requires
+fill_none-requires c =
+    (omega (arith, c.if-top-doublings.false), omega (arith, c.requires.last), omega (arith, c.requires.asked.room))
+
+pub fill_below-requires-2 : goal.fill_below-requires-2
+fill_below-requires-2 c =
+    beyond_asked c.requires _ refl (omega (arith, c.if-top-doublings.false)) c.fill_none.ensures
+
+pub returns : goal.returns
+returns c =
+    beyond_told c.requires _ refl (omega (arith, c.if-top-doublings.false)) c.fill_none.ensures c.fill_below-2.ensures
+
+pub shape_of-part-then-top-doublings : goal.shape_of-part-then-top-doublings
+shape_of-part-then-top-doublings c =
+    (returns-then-top-doublings c).filled.same
+
+pub shape_of-part : goal.shape_of-part
+shape_of-part c =
+    (returns c).filled.same

@@ -1,0 +1,37 @@
+-- The letters stored up to j and the path word of what is left, with what is owed, are the whole path word: this is the invariant.
+-- What is left is produced from some number, and what is owed there is one of the cases of `Owed`.
+use mathlib.Core.Path.{◌≡◌, refl, ◌∙◌}
+use mathlib.Core.List.{List, [], ◌∷◌, ◌++◌}
+use Prim.Native.Nat.{ℕ, suc, ◌+◌, ◌-◌, ◌*◌, ◌/◌, ◌%◌, ◌≤◌, ◌<◌}
+use native.Mathlib.Nat.{le_refl, div-le_self}
+use native.Mathlib.Numerals.{add-one}
+use native.Mathlib.Omega.{arith}
+use lib.Dec.{T}
+use lib.ListN.{length, take, drop, get_or, set, length-set, drop_of_length-le}
+use lib.Seq.{drop-cons, take-set-le, take-suc-set, append_snoc}
+use borrow.Author.Rules.{rules}
+use Rattle.chains.specs.Words.{Word, some_left}
+use Rattle.trees.specs.Trees.{produced}
+use Rattle.trees.specs.TreeOf.{number_after, path_from}
+use Rattle.trees.specs.Letters.{rising, first_letter, rising_low, letter_range}
+use Rattle.trees.specs.Owed.{Owed, none, Onward, one, two, three, onward, owed_few}
+use Rattle.trees.specs.Paths.{path_some, falls_at}
+use Rattle.trees.specs.Walk.{Readable}
+use Rattle.trees.proofs.paths.write_path.Given as goal
+
+-- w is the whole word, v what is left of it.
+pub record Walk (w v : Word) (path : List ℕ) (size owed j : ℕ) : Type 0 where
+  pub number : ℕ
+  pub made : T (produced v number)
+  pub spare : ℕ
+  pub owing : Owed owed number (rising v) spare
+  pub same : length path ≡ size
+  pub count : j + length (path_from owed v) ≡ length (path_from 0 w)
+  pub room : length (path_from 0 w) ≤ size
+  pub whole : take j path ++ path_from owed v ≡ path_from 0 w
+
+abbrev pub invariant-loop-i : goal.invariant-loop-i
+invariant-loop-i l = Walk l.letters (drop l.i l.letters) l.path (length l.initial.path) l.owed l.j
+
+abbrev pub decreases-loop-i : goal.decreases-loop-i
+decreases-loop-i l = length l.letters - l.i
