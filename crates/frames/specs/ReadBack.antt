@@ -60,8 +60,8 @@ fields_first width (x ∷ xs) l h =
     let d = digits_of (2 * width) x in
     let rest = values_digits width xs ++ l in
     let z : 0 + width ≡ width + 0 = omega arith in
-    rw (
-      append_assoc,
+    ap (λ (ys : List ℕ). fields ys 0 width (suc (length xs))) (append_assoc d (values_digits width xs) l)
+    ∙ rw (
       field_first width x rest (h 0 (omega arith)),
       z,
       fields_after width 0 width (length xs) d rest

@@ -292,7 +292,7 @@ unfolding reply_row_of served digits_in among every
 made count_line line = plain _ (single_frame (count (field line 1 8))) tt
 made best_line line = priced (price (prices_in line)) _ (best_sound (field line 1 8) (limits_in line) (prices_in line) (number_low line 1))
 made at_line line = chained _ (at_sound (field line 1 8) (field line 9 8) (number_low line 1))
-made record_line line = sixteen_made _ _ refl tt (tells_largest record_line line) _ (chained _ (record_sound (items_in record_line line)))
+made record_line line = sixteen_made (8 ∷ 9 ∷ 10 ∷ []) _ refl tt (tells_largest record_line line) _ (chained _ (record_sound (items_in record_line line)))
 made word_line line = chained _ (word_sound (items_in word_line line))
 made next_line line = chained _ (next_sound (items_in next_line line))
 made run_line line =

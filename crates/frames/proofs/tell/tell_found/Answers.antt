@@ -1,0 +1,23 @@
+-- `tell_found` tells the chain whose part numbers are the first k in the places, or the refusal.
+use native.Mathlib.Omega.{arith}
+use borrow.Author.Rules.{rules}
+use lib.ListN.{length-take}
+use Rattle.frames.proofs.CallLaws.{found_chain, found_refused}
+use Rattle.frames.proofs.tell.tell_found.Goals as goal
+
+pub slice_bounds-numbers-end : goal.slice_bounds-numbers-end
+slice_bounds-numbers-end c =
+    omega (arith, (found_chain _ c.args.places.now _ _ _ c.in-Chain.is).0)
+
+pub tell_chain-requires : goal.tell_chain-requires
+tell_chain-requires c =
+    let k = (found_chain _ c.args.places.now _ _ _ c.in-Chain.is).0 in
+    (omega arith, rw length-take (omega arith), c.largest_of.ensures)
+
+pub returns-in-Chain : goal.returns-in-Chain
+returns-in-Chain c =
+    rw (found_chain _ _ _ _ _ c.in-Chain.is).1 c.tell_chain.ensures
+
+pub returns-in-Refused : goal.returns-in-Refused
+returns-in-Refused c =
+    rw (found_refused _ _ _ c.in-Refused.is) c.tell_refusal.ensures

@@ -1,0 +1,18 @@
+-- `fill_keys` fills its block: at each turn the numbers for fewer than k parts are right.
+use mathlib.Core.Path.{◌≡◌}
+use Prim.Native.Nat.{suc, ◌-◌, ◌≤◌}
+use native.Mathlib.Numerals.{add-one}
+use native.Mathlib.Omega.{arith}
+use lib.ListN.{length-set}
+use borrow.Author.Rules.{rules}
+use Rattle.limited.specs.Table.{Filled}
+use Rattle.limited.specs.TableLaws.{filled_none, filled_more}
+use Rattle.limited.specs.Cells.{key_in}
+use Rattle.limited.specs.KeyCells.{key_still}
+use Rattle.limited.proofs.table.fill_keys.Given as goal
+
+abbrev pub invariant-loop-k : goal.invariant-loop-k
+invariant-loop-k l = Filled (key_in l.costs l.doublings l.triplings l.b l.a l.m) l.k l.initial.part l.part × (l.k ≤ suc l.most)
+
+abbrev pub decreases-loop-k : goal.decreases-loop-k
+decreases-loop-k l = suc l.most - l.k
