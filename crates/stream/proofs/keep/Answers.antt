@@ -12,13 +12,8 @@ use lib.Dec.{leb}
 use lib.ListN.{length, take, set, get_or, length-take, length-append, length-set}
 use lib.Seq.{paste, paste-zero, paste-suc, take-paste, drop-paste, take_all, take-append-add, drop-drop, length-take-le}
 use Rattle.stream.specs.Pieces.{Keeps}
-use Rattle.stream.proofs.keep.Statement.{statement}
-use Rattle.stream.proofs.keep.Tie as tie
-
--- The first i characters of the part are copied.
-record Copied (part entry : List ℕ) (k : ℕ) (kept : List ℕ) (i : ℕ) : Type 0 where
-  same : length kept ≡ length entry
-  list : kept ≡ paste entry k part i
+use Rattle.stream.proofs.keep.Invariants.{Copied}
+use Rattle.stream.proofs.keep.Goals as goal
 
 none_copied : (part entry : List ℕ) (k : ℕ) → Copied part entry k entry 0
 none_copied part entry k = record { same = refl; list = paste-zero entry k part }
@@ -28,6 +23,7 @@ more_copied : (part entry : List ℕ) (k : ℕ) (kept : List ℕ) (i : ℕ) → 
 more_copied part entry k kept i c h g = record {
   same = length-set kept (k + i) (get_or part i 0) ∙ c.same;
   list = rw (c.list, add-one) (paste-suc entry k part i 0 (omega arith) g);
+
 }
 
 take_least : (n : ℕ) (s : List ℕ) → take (min n (length s)) s ≡ take n s
@@ -71,38 +67,13 @@ module _ (part entry : List ℕ) (k : ℕ) (kept : List ℕ) (more : ℕ) (h : k
         };
       }
 
-abbrev invariant-loop : tie.invariant-loop
-invariant-loop part kept₀ k more i₀ kept i = (i ≤ more) × Copied part kept₀ k kept i
+pub loop-i-init : goal.loop-i-init
+loop-i-init c = search (rules, none_copied)
 
-abbrev decreases-loop : tie.decreases-loop
-decreases-loop part kept₀ k more i₀ kept i = more - i
+pub loop-i-preserved : goal.loop-i-preserved
+loop-i-preserved c = (search rules, more_copied _ _ _ _ _ c.loop-i.invariant.1 (omega arith) (omega arith))
 
-loop-holds : tie.Need-loop-init invariant-loop decreases-loop
-loop-holds c = search (rules, none_copied)
-
-loop-again : tie.Need-loop-preserved invariant-loop decreases-loop
-loop-again c = (search rules, more_copied _ _ _ _ _ c.before.before.loop.invariant.1 (omega arith) (omega arith))
-
-returns : tie.Need-returns invariant-loop decreases-loop
+pub returns : goal.returns
 returns c =
-    let e : c.before.loop.i ≡ c.before.before.least.result = omega arith in
-    all_copied _ _ _ _ _ (omega arith) (omega arith) c.before.before.least.ensures (rw e at c.before.loop.invariant.1)
-
-pub keep_spec : {M : Type 1} → statement M
-keep_spec =
-    tie.close
-    (tie.spec
-    invariant-loop
-    decreases-loop
-    (λ c. search rules)
-    (λ c κs. search rules)
-    loop-holds
-    (λ c. search rules)
-    (λ c. search rules)
-    (λ c. search rules)
-    (λ c. search rules)
-    (λ c. search rules)
-    loop-again
-    (λ c. search rules)
-    (λ c. search rules)
-    returns)
+    let e : c.loop-i.i ≡ c.least-more.result = omega arith in
+    all_copied _ _ _ _ _ (omega arith) (omega arith) c.least-more.ensures (rw e at c.loop-i.invariant.1)

@@ -18,8 +18,7 @@ use Rattle.stream.specs.Pieces.{Adds, Wrote}
 use Rattle.stream.specs.declared.Ended.{Ended}
 use Rattle.stream.specs.declared.Ended.TheVariants as ended
 use Rattle.stream.proofs.Turns.{none_written, wrote_more}
-use Rattle.stream.proofs.answer_end.Statement.{statement}
-use Rattle.stream.proofs.answer_end.Tie as tie
+use Rattle.stream.proofs.answer_end.Goals as goal
 
 line_there : (line : List ℕ) → 0 < length line → last_line line ≡ line ∷ []
 unfolding last_line
@@ -58,50 +57,30 @@ module _ (b : Bool) (kept : List ℕ) (k : ℕ) (scratch out : List ℕ) (enough
       in
       written scratch_exit out_exit n w z
 
-returns : tie.Need-returns
-returns c = too_little_lem _ _ _ _ (sym c.before.is-little.ensures ∙ c.if1.true)
+pub returns-then-is_little : goal.returns-then-is_little
+returns-then-is_little c =
+    let told = (too_little_lem _ _ _ _ (sym c.is_little.ensures ∙ c.if-is_little.true)) in
+    record { answer = told.0; out = told.1.0; scratch = told.1.1 }
 
-returns-2 : tie.Need-returns-2
-returns-2 c =
-    let i = c.before.before.before.before in
-    let n = sym i.before.before.is-little.ensures ∙ i.before.if1.false in
-    no_line _ _ _ _ _ n _ (lent_enough _ _ _ _ n).memory.numbers i.if2.true c.before.before.clear-scratch.ensures
+pub returns-then-k-eq0 : goal.returns-then-k-eq0
+returns-then-k-eq0 c =
+    let told = (let n = sym c.is_little.ensures ∙ c.if-is_little.false in
+    no_line _ _ _ _ _ n _ (lent_enough _ _ _ _ n).memory.numbers c.if-k-eq0.true c.clear_scratch.ensures) in
+    record { answer = told.0; out = told.1.0; scratch = told.1.1 }
 
-part_answer_line_end : tie.Need-slice-bounds-answer-line-end
-part_answer_line_end c =
-    let e = lent_enough _ _ _ _ (sym c.before.before.is-little.ensures ∙ c.before.if1.false) in
+pub slice_bounds-answer_line-end : goal.slice_bounds-answer_line-end
+slice_bounds-answer_line-end c =
+    let e = lent_enough _ _ _ _ (sym c.is_little.ensures ∙ c.if-is_little.false) in
     search rules
 
-answer-line-requires : tie.Need-answer-line-requires
-answer-line-requires c κs =
-    let i = c.before.before.before.before in
-    let e = lent_enough _ _ _ _ (sym i.before.is-little.ensures ∙ i.if1.false) in
+pub answer_line-requires : goal.answer_line-requires
+answer_line-requires c =
+    let e = lent_enough _ _ _ _ (sym c.is_little.ensures ∙ c.if-is_little.false) in
     search rules
 
-returns-3 : tie.Need-returns-3
-returns-3 c =
-    let l = c.before.before.before.before in
-    let i = l.before.before.before.before in
-    let n = sym i.before.before.is-little.ensures ∙ i.before.if1.false in
+pub returns : goal.returns
+returns c =
+    let told = (let n = sym c.is_little.ensures ∙ c.if-is_little.false in
     let e = lent_enough _ _ _ _ n in
-    one_line _ _ _ _ _ n _ _ _ (omega arith) i.if2.false l.answer-line.ensures.0 l.answer-line.ensures.1
-
-pub answer-end-spec : {M : Type 1} → statement M
-answer-end-spec =
-    tie.close
-    (tie.spec
-    (λ c κs. search rules)
-    (λ c. search rules)
-    (λ c. search rules)
-    returns
-    (λ c κs. search rules)
-    (λ c. search rules)
-    (λ c. search rules)
-    returns-2
-    (λ c. search rules)
-    (λ c. search rules)
-    part_answer_line_end
-    answer-line-requires
-    (λ c. search rules)
-    (λ c. search rules)
-    returns-3)
+    one_line _ _ _ _ _ n _ _ _ (omega arith) c.if-k-eq0.false c.answer_line.ensures.adds c.answer_line.ensures.scratch_after) in
+    record { answer = told.0; out = told.1.0; scratch = told.1.1 }

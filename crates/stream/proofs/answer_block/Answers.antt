@@ -14,8 +14,7 @@ use Rattle.stream.specs.AnswerLaws.{lent_enough}
 use Rattle.stream.specs.Pieces.{Keeps, Wrote}
 use Rattle.stream.specs.declared.Fed.{Fed}
 use Rattle.stream.specs.declared.Fed.TheVariants as fed
-use Rattle.stream.proofs.answer_block.Statement.{statement}
-use Rattle.stream.proofs.answer_block.Tie as tie
+use Rattle.stream.proofs.answer_block.Goals as goal
 
 -- What is kept, once the places behind it are zeroed.
 kept_alone : (line entry kept : List ℕ) (n : ℕ) → Keeps line entry kept n
@@ -56,43 +55,25 @@ done b line block kept_entry kept kept_exit scratch_entry scratch scratch_exit o
       ),
     )
 
-returns : tie.Need-returns
-returns c = too_little_lem _ _ _ _ _ _ (sym c.before.is-little.ensures ∙ c.if1.true)
+pub returns-then-is_little : goal.returns-then-is_little
+returns-then-is_little c =
+    let told = (too_little_lem _ _ _ _ _ _ (sym c.is_little.ensures ∙ c.if-is_little.true)) in
+    record { answer = told.0; goes = told.1.0; kept = told.1.1.0; out = told.1.1.1.0; scratch = told.1.1.1.1 }
 
-answer-lines-requires : tie.Need-answer-lines-requires
-answer-lines-requires c κs =
-    let i = c.before.before.before in
-    lent_enough _ _ _ _ (sym i.before.is-little.ensures ∙ i.if1.false)
+pub answer_lines-gone-requires : goal.answer_lines-gone-requires
+answer_lines-gone-requires c =
+    lent_enough _ _ _ _ (sym c.is_little.ensures ∙ c.if-is_little.false)
 
-clear-behind-requires : tie.Need-clear-behind-requires
-clear-behind-requires c κs =
-    let i = c.before.before.before.before.before.before.before.before.before.before.before in
-    let e = lent_enough _ _ _ _ (sym i.before.is-little.ensures ∙ i.if1.false) in
+pub clear_behind-requires : goal.clear_behind-requires
+clear_behind-requires c =
+    let e = lent_enough _ _ _ _ (sym c.is_little.ensures ∙ c.if-is_little.false) in
     search rules
 
-returns-2 : tie.Need-returns-2
-returns-2 c =
-    let a = c.before.before.before.before.before.before.before.before.before.before.before.before.before.before in
-    let i = a.before.before.before.before in
-    let n = sym i.before.is-little.ensures ∙ i.if1.false in
-    let l = a.answer-lines.ensures in
-    done _ _ _ _ _ _ _ _ _ _ _ _ _ _ n (lent_enough _ _ _ _ n).memory.numbers l.0 l.1.0 l.1.1.0 l.1.1.1
-    c.before.before.before.before.before.before.clear_behind.ensures
-    c.before.before.clear-scratch.ensures
-
-pub answer-block-spec : {M : Type 1} → statement M
-answer-block-spec =
-    tie.close
-    (tie.spec
-    (λ c κs. search rules)
-    (λ c. search rules)
-    (λ c. search rules)
-    (λ c. search rules)
-    returns
-    answer-lines-requires
-    clear-behind-requires
-    (λ c κs. search rules)
-    (λ c. search rules)
-    (λ c. search rules)
-    (λ c. search rules)
-    returns-2)
+pub returns : goal.returns
+returns c =
+    let told = (let n = sym c.is_little.ensures ∙ c.if-is_little.false in
+    let l = c.answer_lines-gone.ensures in
+    done _ _ _ _ _ _ _ _ _ _ _ _ _ _ n (lent_enough _ _ _ _ n).memory.numbers l.goes l.wrote l.keeps l.only_first
+    c.clear_behind.ensures
+    c.clear_scratch.ensures) in
+    record { answer = told.0; goes = told.1.0; kept = told.1.1.0; out = told.1.1.1.0; scratch = told.1.1.1.1 }

@@ -12,8 +12,7 @@ use Rattle.digits.specs.Digits.{every}
 use Rattle.digits.specs.DigitLaws.{every_append}
 use Rattle.lines.specs.Stream.{unbroken}
 use Rattle.stream.specs.Pieces.{piece}
-use Rattle.stream.proofs.line_end.Statement.{statement}
-use Rattle.stream.proofs.line_end.Tie as tie
+use Rattle.stream.proofs.line_end.Goals as goal
 
 module _ (block : List ℕ) (from i : ℕ) (after : from ≤ i) where
   passes_none : i ≡ from → unbroken (piece from i block) ≡ true
@@ -39,22 +38,10 @@ module _ (block : List ℕ) (from i : ℕ) (after : from ≤ i) where
         u,
       )
 
-abbrev invariant-loop : tie.invariant-loop
-invariant-loop block from i₀ i = (from ≤ i) × (i ≤ length block) × (unbroken (piece from i block) ≡ true)
+pub loop-i-init : goal.loop-i-init
+loop-i-init c =
+    search (rules, passes_none)
 
-abbrev decreases-loop : tie.decreases-loop
-decreases-loop block from i₀ i = length block - i
-
-pub line-end-spec : {M : Type 1} → statement M
-line-end-spec =
-    tie.close
-    (tie.spec
-    invariant-loop
-    decreases-loop
-    (λ c. search (rules, passes_none))
-    (λ c. search rules)
-    (λ c. search rules)
-    (λ c. search rules)
-    (λ c. search rules)
-    (λ c. search (rules, passes_more))
-    (λ c. search rules))
+pub loop-i-preserved : goal.loop-i-preserved
+loop-i-preserved c =
+    search (rules, passes_more)

@@ -8,21 +8,13 @@ use borrow.Rule.Slice.PartMut.{mid_of, put_mid, mid_len, Post-is}
 use lib.ListN.{length, take}
 use lib.Seq.{length-take-le}
 use Rattle.lent.specs.Lent.{zeros, filled}
-use Rattle.stream.proofs.clear_behind.Statement.{statement}
-use Rattle.stream.proofs.clear_behind.Tie as tie
+use Rattle.stream.proofs.clear_behind.Goals as goal
 
 zeroed : (n : ℕ) (kept ys : List ℕ) → n ≤ 515 → 515 ≤ length kept → ys ≡ zeros (length (mid_of n (515 - n) kept))
     → put_mid n (515 - n) kept ys ≡ filled 515 (take n kept) kept
 unfolding filled
 zeroed n kept ys h l e = rw (e, mid_len n 515 kept l, length-take-le n kept (omega arith), Post-is n 515 kept h)
 
-pub clear-behind-spec : {M : Type 1} → statement M
-clear-behind-spec =
-    tie.close
-    (tie.spec
-    (λ c. search rules)
-    (λ c. search rules)
-    (λ c. search rules)
-    (λ c κs. search rules)
-    (λ c. search rules)
-    (λ c. search (rules, zeroed)))
+pub returns : goal.returns
+returns c =
+    search (rules, zeroed)
