@@ -11,8 +11,9 @@
 #![tactic(auto)]
 
 use best::{Best, Chosen, Limits, Prices};
-use libc::STDOUT_FILENO;
 use ranking::Position;
+
+const STDOUT_FILENO: i32 = 1;
 
 fn at_most(parts: u8, doublings: u8, triplings: u8) -> Limits {
     Limits {
