@@ -239,7 +239,7 @@ fn tell_small(scratch: &mut [u64], places: &mut [u16]) {
 // ---- 64-bit numbers
 
 // What a chain needs, and which of its limits are asked for: 0 one below it, 1 at it, 2 one above it.
-#[derive(Drop)]
+#[derive(Clone, Copy)]
 struct Need {
     position: u64,
     parts: u64,

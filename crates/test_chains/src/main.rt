@@ -11,7 +11,7 @@ const STDIN_FILENO: i32 = 0;
 const STDOUT_FILENO: i32 = 1;
 
 // The numbers of a record as far as they are read; the last one may still grow.
-#[derive(Drop)]
+#[derive(Clone, Copy)]
 struct Record {
     numbers: [u16; 64],
     k: usize,
