@@ -4,9 +4,9 @@
  * number, find its best chain and its cheapest, tell the position of a chain, run a chain on a residue, read and write tree words,
  * move a chain on a bench, and reply to a line of hexadecimal. Each is proved to answer and to leave behind exactly what its
  * contract in crates/meltsjuk/src/lib.rt says, for every argument.
- * `rt staticlib meltsjuk` writes the archive target/staticlib/libmeltsjuk.a, for x86-64 Linux:
+ * `rt lib`, in crates/meltsjuk, writes the archive crates/meltsjuk/out/libmeltsjuk.a, for x86-64 Linux:
  *
- *     cc -I bindings/c program.c target/staticlib/libmeltsjuk.a
+ *     cc -I bindings/c program.c crates/meltsjuk/out/libmeltsjuk.a
  *
  * Memory is lent by the caller, for the time of the call: a pointer, and how many numbers or bytes stand there. They may hold
  * anything before the call, but must be initialised. The proof rests on this, which C does not check:

@@ -16,7 +16,7 @@ use choosing::Choice;
 use ranking::Position;
 
 // The limits on a chain: how many parts, doublings and triplings it may have. Values above 64, 63 and 40 exclude nothing.
-#[derive(Drop)]
+#[derive(Clone, Copy)]
 pub struct Limits {
     pub parts: u8,
     pub doublings: u8,
@@ -25,7 +25,7 @@ pub struct Limits {
 
 // The prices of a doubling, of a tripling, of an addition at a point with letter 1 (document 02's s2) and of one at a point with
 // letter 3 that is not the last (s3). When the chain is run, the first comes right after a doubling and the second after a tripling.
-#[derive(Drop)]
+#[derive(Clone, Copy)]
 pub struct Prices {
     pub doubling: u16,
     pub tripling: u16,
@@ -34,14 +34,14 @@ pub struct Prices {
 }
 
 // The chosen chain, its parts in the places: how many they are and its price; or the refusal.
-#[derive(Drop)]
+#[derive(Clone, Copy)]
 pub enum Chosen {
     Chain { k: u64, price: u64 },
     Refused(u8),
 }
 
 // The same with the chain's position in the whole list of n.
-#[derive(Drop)]
+#[derive(Clone, Copy)]
 pub enum Best {
     Chain { position: u64, k: u64, price: u64 },
     Refused(u8),

@@ -1,12 +1,11 @@
 -- What the program keeps of an unfinished line from one call to the next, and what it writes. No contract says which bytes a read
 -- brings; these say what is kept after any bytes, given how many they are.
 -- Definitions only. The laws are in ConsoleLaws.
-use Rattle.std.specs.Prelude.{◌≡◌, List, ℕ, ◌≤◌, length, take, ℤ}
+use Rattle.std.specs.Prelude.{◌≡◌, List, ℕ, ◌≤◌, length, take, min, Result, Ok, Err}
 use Rattle.lent.specs.Lent.{filled}
 use Rattle.lines.specs.Stream.{replies_to}
 use Rattle.frames.specs.Replies.{reply_of}
 use Rattle.stream.specs.Answers.{Lending}
-use Rattle.io.specs.Counts.{clamp_len}
 
 -- The first k places of `kept` are all that it holds: behind them are zeros up to 515.
 abbrev pub Alone : List ℕ → ℕ → Type 0
@@ -33,6 +32,11 @@ pub record Replies (bytes : List ℕ) : Type 0 where
 abbrev pub Begins : List ℕ → List ℕ → Type 0
 Begins bytes out = take (length bytes) out ≡ bytes
 
--- The first bytes of the block, as many as the read call answered that it brought; none where it answered a negative number.
-abbrev pub came : ℤ → List ℕ → List ℕ
-came got block = take (clamp_len got (length block)) block
+-- How many bytes a read brought, given what the read call answered: none where it failed, and never more than the block has.
+abbrev pub brought : {E : Type 0} → Result ℕ E → ℕ → ℕ
+brought (Ok n) most = min n most
+brought (Err e) most = 0
+
+-- The first bytes of the block, as many as the read call answered that it brought; none where it failed.
+abbrev pub came : {E : Type 0} → Result ℕ E → List ℕ → List ℕ
+came got block = take (brought got (length block)) block

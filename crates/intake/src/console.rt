@@ -1,54 +1,59 @@
 // Standard input answered to standard output: document 01, 'Frames'. What is answered is the crate stream's; here are the calls
 // that read and write, of which no contract can say which bytes they move. What a read brings is answered, and the replies are
 // written, before the next read, so that a person at a pipe gets a reply to each line. Memory does not grow with the input.
-ghost use Rattle.std.specs.Prelude.{◌≡◌, true, false, ◌≤◌, ◌<◌, length, take, pos};
+ghost use Rattle.std.specs.Prelude.{◌≡◌, true, false, ◌≤◌, ◌<◌, length, take, Ok};
 ghost use Rattle.lines.specs.Stream.{finished, unfinished, last_line, replies_to};
 ghost use Rattle.frames.specs.Replies.{reply_of};
 ghost use Rattle.stream.specs.Answers.{Moves};
-ghost use Rattle.intake.specs.Console.{Ready, Holds, Replies, Begins, came};
+ghost use Rattle.intake.specs.Console.{Ready, Holds, Replies, Begins, brought, came};
 
-use libc::{STDIN_FILENO, STDOUT_FILENO};
+use std::io::{Error, ErrorKind, Read, Result, Write};
 use stream::{Ended, Fed};
 
-// Whether a call that moved no bytes was only interrupted by a signal, and is to be tried again.
-fn was_interrupted(moved: isize) -> bool {
-    if moved < 0 {
-        return os::errno() == libc::EINTR;
-    }
-    false
+// Whether a call that failed was only interrupted by a signal, and is to be tried again.
+fn was_interrupted(error: &Error) -> bool {
+    error.kind() == ErrorKind::Interrupted
 }
 
-// Writes all of the bytes, and answers whether that succeeded. A loop has to end, so it counts its turns down from a number that no
-// run uses up.
-fn write_all(bytes: &[u8]) -> bool {
+// Tells on standard error which call failed, and why. Where that fails too, nobody is there to be told.
+fn tell_failure(rt: &HostRuntime, what: &str, error: &Error) {
+    let _ = eprintln!(rt; "{what}: {error}");
+}
+
+// Writes all of the bytes, or answers why it could not. A loop has to end, so it counts its turns down from a number that no run uses
+// up.
+fn write_all(rt: &HostRuntime, bytes: &[u8]) -> Result<()> {
     let mut done = 0;
     let mut turns = u64::MAX;
     while done < bytes.len() {
         if turns == 0 {
-            return false;
+            return Err(Error::from(ErrorKind::TimedOut));
         }
         turns -= 1;
-        let rest = &bytes[done..];
-        let put = libc::write(STDOUT_FILENO, rest);
-        if put <= 0 {
-            if !was_interrupted(put) {
-                return false;
+        match rt.stdout().write(&bytes[done..]) {
+            Ok(0) => return Err(Error::from(ErrorKind::WriteZero)),
+            Ok(written) => done += written,
+            Err(error) => {
+                if !was_interrupted(&error) {
+                    return Err(error);
+                }
             }
         }
-        done += io::count(put, rest);
     }
-    true
+    Ok(())
 }
 
 // The same for replies, with a failure told on standard error. Nothing else is written to standard output.
-fn put(bytes: &[u8]) -> bool
+fn put(rt: &HostRuntime, bytes: &[u8]) -> bool
     requires { Replies bytes.now }
 {
-    if write_all(bytes) {
-        return true;
+    match write_all(rt, bytes) {
+        Ok(()) => true,
+        Err(error) => {
+            tell_failure(rt, "standard output", &error);
+            false
+        }
     }
-    os::fail(b"standard output");
-    false
 }
 
 // How much of a block one call used, how many characters it kept, and how many bytes of replies it wrote to memory.
@@ -95,7 +100,14 @@ struct Part {
 }
 
 // Answers as much of a block as the room for replies takes, and writes the replies. They stand first in `out`.
-fn answer_part(block: &[u8], kept: &mut [u8], k: usize, scratch: &mut [u64], out: &mut [u8]) -> Part
+fn answer_part(
+    rt: &HostRuntime,
+    block: &[u8],
+    kept: &mut [u8],
+    k: usize,
+    scratch: &mut [u64],
+    out: &mut [u8],
+) -> Part
     requires { Ready kept.old k scratch.old out.old }
     ensures moves { (result.used ≤ length block.now) × (0 < length block.now → 0 < result.used) }
     ensures kept { Holds (unfinished (take k kept.old) (take result.used block.now)) kept.new
@@ -108,7 +120,7 @@ fn answer_part(block: &[u8], kept: &mut [u8], k: usize, scratch: &mut [u64], out
     Part {
         used: taken.used,
         kept: taken.kept,
-        is_put: put(&out[0..written]),
+        is_put: put(rt, &out[0..written]),
     }
 }
 
@@ -121,6 +133,7 @@ struct Answer {
 
 // Answers a block, part by part. Where there is more to read, what the whole block leaves unfinished is kept.
 fn answer_bytes(
+    rt: &HostRuntime,
     block: &[u8],
     kept: &mut [u8],
     k: usize,
@@ -134,7 +147,7 @@ fn answer_bytes(
     let mut left = k;
     let mut at = 0;
     while at < block.len() {
-        let part = answer_part(&block[at..], kept, left, scratch, out);
+        let part = answer_part(rt, &block[at..], kept, left, scratch, out);
         left = part.kept;
         at += part.used;
         if !part.is_put {
@@ -163,19 +176,31 @@ fn take_rest(kept: &[u8], k: usize, scratch: &mut [u64], out: &mut [u8]) -> usiz
 }
 
 // The same, and writes the reply. It stands first in `out`.
-fn answer_rest(kept: &[u8], k: usize, scratch: &mut [u64], out: &mut [u8])
+fn answer_rest(rt: &HostRuntime, kept: &[u8], k: usize, scratch: &mut [u64], out: &mut [u8])
     requires { Ready kept.now k scratch.old out.old }
     ensures { Begins (replies_to reply_of (last_line (take k kept.now))) out.new }
 {
     let written = take_rest(kept, k, scratch, out);
-    put(&out[0..written]);
+    put(rt, &out[0..written]);
+}
+
+// How many bytes of the block a read brought, given what the read call answered: none where it failed, and no more than the block has.
+fn count(got: &Result<usize>, block: &[u8]) -> usize
+    ensures in_bounds { result ≤ length block.now }
+    ensures value { result ≡ brought got.now (length block.now) }
+{
+    match got {
+        Ok(n) => (*n).min(block.len()),
+        Err(_) => 0,
+    }
 }
 
 // Answers what a read brought, given what the read call answered: the kept line at the end of the input, else all the bytes that
 // came. A read that was interrupted brings nothing, and the next one tries again; one that failed is told on standard error. Where
 // there is more to read, what the bytes that came leave unfinished is kept.
 fn answer_got(
-    got: isize,
+    rt: &HostRuntime,
+    got: Result<usize>,
     block: &[u8],
     kept: &mut [u8],
     k: usize,
@@ -183,42 +208,51 @@ fn answer_got(
     out: &mut [u8],
 ) -> Answer
     requires { Ready kept.old k scratch.old out.old }
-    ensures end { got ≡ pos 0 → (result.more ≡ false)
+    ensures end { got ≡ Ok 0 → (result.more ≡ false)
         × Begins (replies_to reply_of (last_line (take k kept.old))) out.new }
     ensures more { result.more ≡ true
         → Holds (unfinished (take k kept.old) (came got block.now)) kept.new result.kept }
 {
-    if got == 0 {
-        answer_rest(kept, k, scratch, out);
-        return Answer {
-            kept: 0,
-            more: false,
-        };
-    }
-    if got < 0 {
-        if !was_interrupted(got) {
-            os::fail(b"standard input");
+    match &got {
+        Ok(0) => {
+            answer_rest(rt, kept, k, scratch, out);
             return Answer {
                 kept: 0,
                 more: false,
             };
         }
+        Ok(_) => (),
+        Err(error) => {
+            if !was_interrupted(error) {
+                tell_failure(rt, "standard input", error);
+                return Answer {
+                    kept: 0,
+                    more: false,
+                };
+            }
+        }
     }
-    let n = io::count(got, block);
-    answer_bytes(&block[0..n], kept, k, scratch, out)
+    let n = count(&got, block);
+    answer_bytes(rt, &block[0..n], kept, k, scratch, out)
 }
 
 // Answers all of the input in lent memory: reads, and answers what came, until there is no more to read. No contract can say that
 // the number which is handed on is the one that the read call answered.
-fn answer_all(block: &mut [u8], kept: &mut [u8], scratch: &mut [u64], out: &mut [u8])
+fn answer_all(
+    rt: &HostRuntime,
+    block: &mut [u8],
+    kept: &mut [u8],
+    scratch: &mut [u64],
+    out: &mut [u8],
+)
     requires { Ready kept.old 0 scratch.old out.old }
 {
     let mut k = 0;
     let mut turns = u64::MAX;
     while turns > 0 {
         turns -= 1;
-        let got = libc::read(STDIN_FILENO, block);
-        let answer = answer_got(got, block, kept, k, scratch, out);
+        let got = rt.stdin().read(block);
+        let answer = answer_got(rt, got, block, kept, k, scratch, out);
         if !answer.more {
             return;
         }
@@ -228,10 +262,10 @@ fn answer_all(block: &mut [u8], kept: &mut [u8], scratch: &mut [u64], out: &mut 
 
 // Answers standard input: reads it in blocks of 65,536 bytes, and writes a reply for each line. A read or a write that fails is
 // told on standard error and ends it.
-pub fn answer_input() {
+pub fn answer_input(rt: &HostRuntime) {
     let mut block = io::large_buffer();
     let mut out = io::large_buffer();
     let mut kept = [0u8; 515];
     let mut scratch = [0u64; lent::SCRATCH];
-    answer_all(&mut block, &mut kept, &mut scratch, &mut out);
+    answer_all(rt, &mut block, &mut kept, &mut scratch, &mut out);
 }

@@ -3,6 +3,6 @@
 
 mod console;
 
-fn main() {
-    console::answer_input();
+fn main(rt: HostRuntime) {
+    console::answer_input(&rt);
 }

@@ -1,4 +1,4 @@
-// The services for C and Rust: `rt staticlib meltsjuk` writes the archive; the header and the Rust package are in bindings/. Each
+// The services for C and Rust: `rt lib` writes the archive, out/libmeltsjuk.a; the header and the Rust package are in bindings/. Each
 // function calls one service and turns its answer into a number, and numbers put where the caller asks. To C a slice is a pointer
 // and a length.
 #![tactic(auto)]

@@ -26,7 +26,7 @@ pub enum Position {
 }
 
 // A chain that was found, its parts in the places, or the refusal.
-#[derive(Drop)]
+#[derive(Clone, Copy)]
 pub enum Found {
     Chain { n: u64, position: u64, k: u64 },
     Refused(u8),

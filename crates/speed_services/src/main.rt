@@ -6,6 +6,7 @@
 use best::{Best, Chosen, Limits, Prices};
 use counting::Counted;
 use ranking::Found;
+use std::rt::Env;
 
 // The next number of the sequence (xorshift).
 fn next(x: u64) -> u64 {
@@ -15,9 +16,9 @@ fn next(x: u64) -> u64 {
 }
 
 // The decimal number that the word at the index `at` is; 0 where there is none.
-fn word_at(at: usize) -> u64 {
+fn word_at(rt: &impl Env, at: usize) -> u64 {
     let mut text = io::buffer();
-    let length = os::arg(at, &mut text);
+    let length = rt.arg(at, &mut text).unwrap_or(0);
     let mut n: u64 = 0;
     let mut i = 0;
     while i < text.len() {
@@ -191,9 +192,9 @@ fn sum_of_placed(times: u64, scratch: &mut [u64]) -> u64 {
     sum
 }
 
-fn main() {
-    let service = word_at(1);
-    let times = word_at(2);
+fn main(rt: HostRuntime) {
+    let service = word_at(&rt, 1);
+    let times = word_at(&rt, 2);
     let mut scratch = [0u64; lent::SCRATCH];
     let sum = match service {
         1 => sum_of_counts(times, &mut scratch),

@@ -20,8 +20,11 @@ mod tallies;
 mod walks;
 
 use bench::Benched;
-use libc::{STDIN_FILENO, STDOUT_FILENO};
 use tallies::Tally;
+
+const STDIN_FILENO: i32 = 0;
+
+const STDOUT_FILENO: i32 = 1;
 
 // The numbers of a record as far as they are read; the last one may still grow.
 #[derive(Drop)]

@@ -1,6 +1,7 @@
 // The lent memory: digests of it, whether it is left as it should be, and what is printed.
 use bench::Benched;
-use libc::STDOUT_FILENO;
+
+const STDOUT_FILENO: i32 = 1;
 
 pub fn print(n: u64) {
     io::print_decimal(STDOUT_FILENO, n);

@@ -2,7 +2,7 @@
 use super::memory;
 use bench::{Told, Walked};
 
-#[derive(Drop)]
+#[derive(Clone, Copy)]
 pub struct Tally {
     pub n: u64,
     pub chains: u64,

@@ -11,8 +11,9 @@
 #![tactic(auto)]
 
 use best::{Best, Chosen, Limits, Prices};
-use libc::STDOUT_FILENO;
 use ranking::Position;
+
+const STDOUT_FILENO: i32 = 1;
 
 fn at_most(parts: u8, doublings: u8, triplings: u8) -> Limits {
     Limits {
@@ -238,7 +239,7 @@ fn tell_small(scratch: &mut [u64], places: &mut [u16]) {
 // ---- 64-bit numbers
 
 // What a chain needs, and which of its limits are asked for: 0 one below it, 1 at it, 2 one above it.
-#[derive(Drop)]
+#[derive(Clone, Copy)]
 struct Need {
     position: u64,
     parts: u64,

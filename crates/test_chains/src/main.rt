@@ -4,11 +4,14 @@
 #![tactic(auto)]
 
 use comparing::Compared;
-use libc::{STDIN_FILENO, STDOUT_FILENO};
 use words::{Judged, Written};
 
+const STDIN_FILENO: i32 = 0;
+
+const STDOUT_FILENO: i32 = 1;
+
 // The numbers of a record as far as they are read; the last one may still grow.
-#[derive(Drop)]
+#[derive(Clone, Copy)]
 struct Record {
     numbers: [u16; 64],
     k: usize,

@@ -1,7 +1,8 @@
 // The lent memory: what it holds at entry, where runs of a number end in it, digests of chains, and what is printed.
 use best::Chosen;
 use counting::Counted;
-use libc::STDOUT_FILENO;
+
+const STDOUT_FILENO: i32 = 1;
 
 pub fn print(n: u64) {
     io::print_decimal(STDOUT_FILENO, n);

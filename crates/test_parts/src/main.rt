@@ -5,8 +5,9 @@
 ghost use Rattle.std.specs.Prelude.{◌≡◌, get_or};
 ghost use Rattle.parts.specs.Table.{parts};
 
-use libc::STDOUT_FILENO;
 use parts::{Number, Sum};
+
+const STDOUT_FILENO: i32 = 1;
 
 fn print(n: u64) {
     io::print_decimal(STDOUT_FILENO, n);

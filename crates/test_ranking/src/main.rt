@@ -12,10 +12,11 @@
 ghost use Rattle.std.specs.Prelude.{◌≡◌, ◌<◌, ◌≤◌, length};
 
 use counting::Counted;
-use libc::STDOUT_FILENO;
 use parts::Number;
 use ranking::{Found, Placed, Position};
 use words::Written;
+
+const STDOUT_FILENO: i32 = 1;
 
 fn print(n: u64) {
     io::print_decimal(STDOUT_FILENO, n);

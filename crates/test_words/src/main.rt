@@ -5,8 +5,9 @@
 
 ghost use Rattle.std.specs.Prelude.{◌≡◌, ◌≤◌, ◌<◌, length};
 
-use libc::STDOUT_FILENO;
 use words::{Judged, Parted, Weighed, Written};
+
+const STDOUT_FILENO: i32 = 1;
 
 fn text(bytes: &[u8]) {
     io::write_all(STDOUT_FILENO, bytes);
