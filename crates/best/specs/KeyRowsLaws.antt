@@ -2,7 +2,7 @@
 --
 -- In this order: a run of cells with no word; the columns of a row below one that is filled; columns outside the grid; the end of a
 -- row, within the limit on doublings or behind it; the rows in the scratch. The laws over any meaning are in grid, Fill.
-use Rattle.std.specs.Prelude.{◌≡◌, ℕ, suc, ◌+◌, ◌-◌, ◌*◌, ◌/◌, ◌%◌, ◌^◌, ◌<◌, ◌≤◌, min, Bool, true, false, ◌⊎◌, List, length, set, slice_index, slice_index_or, slice_set, refl}
+use Rattle.std.specs.Prelude.{◌≡◌, ℕ, suc, ◌+◌, ◌-◌, ◌*◌, ◌/◌, ◌%◌, ◌^◌, ◌<◌, ◌≤◌, min, Bool, true, false, ◌⊎◌, List, length, slice_index, slice_index_or, slice_set, refl}
 use Rattle.std.proofs.Common.{sym, ◌∙◌, inl, inr, ⊎_elim, eq-or-lt_of_le, le-div_iff_mul-le, le_trans, lt_of_not-le, pow-suc, div-one, one-add, arith, length-set, pow_mono, pow_pos, shr-shr, get_or-set_same, get_or-set_other, drop-set-lt, get_or-drop}
 use Rattle.std.proofs.Math.Nat.{sub-zero, sub_self}
 use borrow.Rule.Slice.PartMut.{mid_of, put_mid}

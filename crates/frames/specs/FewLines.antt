@@ -5,7 +5,7 @@
 use Rattle.std.specs.Prelude.{◌≡◌, ◌↔◌, ◌⊎◌, List, ℕ, ◌≤◌}
 use Rattle.std.proofs.Math.Logic.Iff
 use Rattle.std.proofs.Common.{arith}
-use Rattle.chains.specs.Listing.{count, chain_at}
+use Rattle.chains.specs.Listing.{chain_at}
 use Rattle.chains.specs.Few.{NamedForOne, NamedForTwo, OnlyChain, OnlyChains}
 use Rattle.chains.proofs.FewLaws.{one_chain, two_chains}
 use Rattle.chains.proofs.FewLists.{only_chain, only_chains}

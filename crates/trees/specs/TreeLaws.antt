@@ -1,7 +1,7 @@
 -- Tree words, the theorems of record: document 02, T-05; 003, figure 1.
 -- In order: the number of a word; what a produced word leads to; what a chain leads to; that a chain has exactly one tree word (`one_tree_word`) and which
 -- words a number's lines produce (`tree_words`); how long a tree word is (`tree_short`), and its letters.
-use Rattle.std.specs.Prelude.{◌≡◌, refl, ◌↔◌, true, ℕ, zero, suc, ◌-◌, ◌^◌, ◌%◌, ◌≤◌, ◌<◌, T, length, drop, get_or}
+use Rattle.std.specs.Prelude.{◌≡◌, refl, ◌↔◌, true, ℕ, zero, suc, ◌^◌, ◌%◌, ◌≤◌, ◌<◌, T, length, drop, get_or}
 use Rattle.std.proofs.Math.Path.{ap}
 use Rattle.std.proofs.Common.{sym, ◌∙◌, le_refl, le_trans, arith}
 use mathlib.Core.List.Memᴰ

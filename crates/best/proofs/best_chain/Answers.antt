@@ -1,5 +1,4 @@
 -- `best_chain` tells what choosing and then placing tell, put together. Choosing gives at most 64 parts, and they stand in the places.
-use Rattle.std.proofs.Common.{rules}
 use Rattle.best.specs.Chosen.{limits_of, prices_of}
 use Rattle.best.specs.Placing.{together, refused_told, numbers_stand, placed_told}
 use Rattle.best.proofs.best_chain.Goals as goal

@@ -1,6 +1,5 @@
 -- `choose_chain` answers what its outcome says: where enough is lent it chooses a word and puts its part numbers in the places, or
 -- refuses with 5.
-use Rattle.std.proofs.Common.{rules}
 use Rattle.chains.specs.Best.{price, best_chain}
 use Rattle.lent.specs.Lent.{scratch_size}
 use Rattle.lent.specs.LentLaws.{little_scratch_lem, little_places}
@@ -11,13 +10,11 @@ use Rattle.best.proofs.choose_chain.Goals as goal
 
 pub returns-then-scratch-lt-SCRATCH : goal.returns-then-scratch-lt-SCRATCH
 returns-then-scratch-lt-SCRATCH c =
-    
     let told = (little _ _ _ _ _ (little_scratch_lem 64 _ _ c.if-scratch-lt-SCRATCH.true)) in
     record { answer = told.0; places = told.1.0; scratch = told.1.1 }
 
 pub returns-then-places-lt64 : goal.returns-then-places-lt64
 returns-then-places-lt64 c =
-    
     let told = (little _ _ _ _ _ (little_places scratch_size 64 _ _ c.if-places-lt64.true)) in
     record { answer = told.0; places = told.1.0; scratch = told.1.1 }
 

@@ -1,9 +1,8 @@
 -- `reply` refuses with 1 where too little is lent. Else it replies by the line's shape.
-use mathlib.Core.Path.{◌≡◌, refl, sym, ◌∙◌}
+use mathlib.Core.Path.{◌≡◌, refl, sym}
 use mathlib.Core.Bool.{true}
 use mathlib.Core.List.{List}
 use Prim.Native.Nat.{ℕ}
-use borrow.Author.Rules.{rules}
 use Rattle.lent.specs.Lent.{scratch_left, too_little, Enough, scratch_size, memory_left}
 use Rattle.lent.specs.LentLaws.{little_scratch_lem, little_places, enough}
 use Rattle.lines.specs.Lines.{shape_of, shape_code}

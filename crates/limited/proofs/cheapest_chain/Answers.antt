@@ -1,6 +1,5 @@
 -- `cheapest_chain` answers what its outcome says: where enough is lent it chooses a word and puts its part numbers in the places, or
 -- refuses with 5.
-use borrow.Author.Rules.{rules}
 use Rattle.chains.specs.Best.{price, cheapest_chain}
 use Rattle.lent.specs.LentLaws.{little_scratch_lem, little_places}
 use Rattle.best.specs.Chosen.{limits_of, prices_of}
@@ -11,13 +10,11 @@ use Rattle.limited.proofs.cheapest_chain.Goals as goal
 
 pub returns-then-scratch-lt-TABLE : goal.returns-then-scratch-lt-TABLE
 returns-then-scratch-lt-TABLE c =
-    
     let told = (little _ _ _ _ _ (little_scratch_lem 64 _ _ c.if-scratch-lt-TABLE.true)) in
     record { answer = told.0; places = told.1.0; scratch = told.1.1 }
 
 pub returns-then-places-lt64 : goal.returns-then-places-lt64
 returns-then-places-lt64 c =
-    
     let told = (little _ _ _ _ _ (little_places table_size 64 _ _ c.if-places-lt64.true)) in
     record { answer = told.0; places = told.1.0; scratch = told.1.1 }
 

@@ -1,6 +1,5 @@
 -- `count_up_to` answers the count where enough is lent, and zeroes the table.
 use mathlib.Core.Path.{sym, ap, ◌∙◌}
-use borrow.Author.Rules.{rules}
 use Rattle.lent.specs.LentLaws.{refused_untouched, served_zeroed, used_left}
 use Rattle.counting.specs.declared.Counted.TheVariants.{Count}
 use Rattle.limited.specs.Promises.{up_to_served, up_to_refused}

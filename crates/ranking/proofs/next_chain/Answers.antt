@@ -1,6 +1,5 @@
 -- `next_chain` meets its contract: what comes next of a word that is packed is what stands one position on.
 use mathlib.Core.Path.{sym, ◌∙◌}
-use borrow.Author.Rules.{rules}
 use Rattle.lent.specs.Lent.{scratch_size}
 use Rattle.lent.specs.LentLaws.{little_scratch_lem, little_places}
 use Rattle.words.specs.PackedLaws.{packed_letters_lem}
@@ -9,13 +8,11 @@ use Rattle.ranking.proofs.next_chain.Goals as goal
 
 pub returns-then-scratch-lt-SCRATCH : goal.returns-then-scratch-lt-SCRATCH
 returns-then-scratch-lt-SCRATCH c =
-    
     let told = (little _ _ _ (little_scratch_lem 64 _ _ c.if-scratch-lt-SCRATCH.true)) in
     record { answer = told.0; places = told.1.0; scratch = told.1.1 }
 
 pub returns-then-places-lt64 : goal.returns-then-places-lt64
 returns-then-places-lt64 c =
-    
     let told = (little _ _ _ (little_places scratch_size 64 _ _ c.if-places-lt64.true)) in
     record { answer = told.0; places = told.1.0; scratch = told.1.1 }
 

@@ -1,6 +1,5 @@
 -- `place_record` reads the record and tells the position alone.
 use mathlib.Core.Path.{sym, ◌∙◌}
-use borrow.Author.Rules.{rules}
 use Rattle.ranking.proofs.Answers.{position_placed, position_refused}
 use Rattle.ranking.proofs.place_record.Goals as goal
 

@@ -1,6 +1,5 @@
 -- `read_record` meets its contract: a record that is packed is the word of its chain, which stands in the list of its sum.
 use mathlib.Core.Path.{sym, ◌∙◌}
-use borrow.Author.Rules.{rules}
 use Rattle.lent.specs.LentLaws.{served_zeroed}
 use Rattle.words.specs.PackedLaws.{packed_word_lem}
 use Rattle.ranking.proofs.Answers.{scratch_refused, scratch_served, record_listed, record_placed, record_refused}
@@ -8,7 +7,6 @@ use Rattle.ranking.proofs.read_record.Goals as goal
 
 pub returns-then-scratch-lt-SCRATCH : goal.returns-then-scratch-lt-SCRATCH
 returns-then-scratch-lt-SCRATCH c =
-    
     let told = (scratch_refused _ _ c.if-scratch-lt-SCRATCH.true) in
     record { answer = told.0; scratch = told.1 }
 

@@ -1,6 +1,5 @@
 -- `answer_line` lends the part of `out` from `at` on for the reply, and stores byte 10 behind its digits.
 use native.Mathlib.Omega.{arith}
-use borrow.Author.Rules.{rules}
 use Rattle.stream.proofs.OneReply.{reply_added}
 use Rattle.stream.proofs.answer_line.Goals as goal
 

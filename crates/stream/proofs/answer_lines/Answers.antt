@@ -1,9 +1,7 @@
 -- `answer_lines` answers a line at each turn. The measure is what is left of the block.
-use Prim.Native.Nat.{◌-◌}
 use native.Mathlib.Omega.{arith}
-use lib.ListN.{length, take}
 use Rattle.stream.specs.AnswerLaws.{wrote_fits}
-use Rattle.stream.proofs.Turns.{Turn, none_answered, one_more, no_room, all_used, all_wrote, rest_kept}
+use Rattle.stream.proofs.Turns.{none_answered, one_more, no_room, all_used, all_wrote, rest_kept}
 use borrow.Author.Rules.{rules}
 use Rattle.stream.proofs.answer_lines.Goals as goal
 

@@ -1,14 +1,11 @@
 -- `answer_lines` answers a line at each turn. The measure is what is left of the block.
 use Prim.Native.Nat.{◌-◌}
-use native.Mathlib.Omega.{arith}
 use lib.ListN.{length, take}
-use Rattle.stream.specs.AnswerLaws.{wrote_fits}
-use Rattle.stream.proofs.Turns.{Turn, none_answered, one_more, no_room, all_used, all_wrote, rest_kept}
-use borrow.Author.Rules.{rules}
+use Rattle.stream.proofs.Turns.{Turn}
 use Rattle.stream.proofs.answer_lines.Given as goal
 
 abbrev pub invariant-loop-end : goal.invariant-loop-end
-invariant-loop-end l =     Turn (take l.k l.initial.kept) l.block l.initial.kept l.initial.scratch l.initial.out l.kept l.scratch l.out l.at l.left l.written l.end
+invariant-loop-end l = Turn (take l.k l.initial.kept) l.block l.initial.kept l.initial.scratch l.initial.out l.kept l.scratch l.out l.at l.left l.written l.end
 
 abbrev pub decreases-loop-end : goal.decreases-loop-end
 decreases-loop-end l = length l.block - l.at

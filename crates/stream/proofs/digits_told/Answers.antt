@@ -1,6 +1,5 @@
 -- `digits_told` goes by the answer's two cases.
 use mathlib.Core.Path.{sym, ap}
-use borrow.Author.Rules.{rules}
 use Rattle.stream.specs.Pieces.{digits_told}
 use Rattle.stream.proofs.digits_told.Goals as goal
 

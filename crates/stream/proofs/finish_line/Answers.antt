@@ -4,7 +4,6 @@ use mathlib.Core.List.{List, ◌++◌}
 use Prim.Native.Nat.{ℕ, ◌-◌}
 use native.Mathlib.Nat.{sub-zero}
 use lib.ListN.{take}
-use borrow.Author.Rules.{rules}
 use Rattle.frames.specs.Replies.{reply_of}
 use Rattle.frames.specs.ReplyLaws.{first_515}
 use Rattle.stream.proofs.finish_line.Goals as goal

@@ -10,7 +10,7 @@ use borrow.Author.Rules.{rules}
 use borrow.Author.Tests.{leb-true, leb-false}
 use lib.Dec.{leb}
 use lib.ListN.{length, take, set, get_or, length-take, length-append, length-set}
-use lib.Seq.{paste, paste-zero, paste-suc, take-paste, drop-paste, take_all, take-append-add, drop-drop, length-take-le}
+use lib.Seq.{paste-zero, paste-suc, take-paste, drop-paste, take_all, take-append-add, drop-drop, length-take-le}
 use Rattle.stream.specs.Pieces.{Keeps}
 use Rattle.stream.proofs.keep.Invariants.{Copied}
 use Rattle.stream.proofs.keep.Goals as goal
@@ -23,7 +23,6 @@ more_copied : (part entry : List ℕ) (k : ℕ) (kept : List ℕ) (i : ℕ) → 
 more_copied part entry k kept i c h g = record {
   same = length-set kept (k + i) (get_or part i 0) ∙ c.same;
   list = rw (c.list, add-one) (paste-suc entry k part i 0 (omega arith) g);
-
 }
 
 take_least : (n : ℕ) (s : List ℕ) → take (min n (length s)) s ≡ take n s

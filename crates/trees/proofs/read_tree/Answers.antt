@@ -5,7 +5,6 @@ use Prim.Native.Nat.{ℕ, ◌≤◌}
 use native.Mathlib.Nat.{sub-zero}
 use native.Mathlib.Omega.{arith}
 use lib.ListN.{length}
-use borrow.Author.Rules.{rules}
 use Rattle.chains.specs.Words.{Word}
 use Rattle.lent.specs.Lent.{scratch_size, little_scratch, too_little, scratch_left}
 use Rattle.lent.specs.LentLaws.{little_scratch_lem, little_places, served_zeroed}
@@ -45,13 +44,11 @@ not_read w r s p s' e h k f = refused_served s p s' (of_tree w) r (found.Refused
 
 pub returns-then-scratch-lt-SCRATCH : goal.returns-then-scratch-lt-SCRATCH
 returns-then-scratch-lt-SCRATCH c =
-    
     let told = (little _ _ _ (little_scratch_lem 64 _ _ c.if-scratch-lt-SCRATCH.true)) in
     record { answer = told.0; places = told.1.0; scratch = told.1.1 }
 
 pub returns-then-places-lt64 : goal.returns-then-places-lt64
 returns-then-places-lt64 c =
-    
     let told = (little _ _ _ (little_places scratch_size 64 _ _ c.if-places-lt64.true)) in
     record { answer = told.0; places = told.1.0; scratch = told.1.1 }
 

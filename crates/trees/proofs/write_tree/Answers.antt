@@ -4,7 +4,6 @@ use mathlib.Core.List.{List}
 use Prim.Native.Nat.{ℕ, zero, suc, ◌≤◌, ◌<◌}
 use native.Mathlib.Omega.{arith}
 use lib.ListN.{length}
-use borrow.Author.Rules.{rules}
 use borrow.Author.Tests.{lt-ltb, le-ltb}
 use Rattle.lent.specs.Lent.{filled}
 use Rattle.words.specs.Records.{record_parts}
@@ -71,13 +70,11 @@ module _ (l entry : List ℕ) where
 
 pub returns-then-places-lt160 : goal.returns-then-places-lt160
 returns-then-places-lt160 c =
-    
     let told = (few _ _ c.if-places-lt160.true) in
     record { answer = told.0; places = told.1 }
 
 pub returns-then-n-eq0 : goal.returns-then-n-eq0
 returns-then-n-eq0 c =
-    
     let told = (empty _ _ c.if-places-lt160.false _ _ _ _ (sym c.pack_word.ensures ∙ c.in-Word.is) c.if-n-eq0.true) in
     record { answer = told.0; places = told.1 }
 
@@ -94,6 +91,5 @@ returns-else-n-eq0 c =
 
 pub returns-in-Refused : goal.returns-in-Refused
 returns-in-Refused c =
-    
     let told = (refused_record _ _ c.if-places-lt160.false _ (sym c.pack_word.ensures ∙ c.in-Refused.is)) in
     record { answer = told.0; places = told.1 }

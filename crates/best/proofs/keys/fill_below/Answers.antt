@@ -1,6 +1,5 @@
 -- `fill_below` fills the columns below `start`, one a turn: each bit of a mask tells the remainder by three that the choice asks.
-use Rattle.std.proofs.Common.{◌-◌, ◌∙◌, arith, rules}
-use Rattle.best.specs.KeyRows.{Below}
+use Rattle.std.proofs.Common.{◌-◌, ◌∙◌, arith}
 use Rattle.best.specs.KeyRowsLaws.{below_none, below_room, half_fits, turns_fit, below_more, below_all}
 use Rattle.best.proofs.keys.fill_below.Goals as goal
 

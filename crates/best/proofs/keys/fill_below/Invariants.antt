@@ -1,11 +1,9 @@
 -- `fill_below` fills the columns below `start`, one a turn: each bit of a mask tells the remainder by three that the choice asks.
-use Rattle.std.proofs.Common.{◌-◌, ◌∙◌, arith, rules}
 use Rattle.best.specs.KeyRows.{Below}
-use Rattle.best.specs.KeyRowsLaws.{below_none, below_room, half_fits, turns_fit, below_more, below_all}
 use Rattle.best.proofs.keys.fill_below.Given as goal
 
 abbrev pub invariant-loop-a : goal.invariant-loop-a
-invariant-loop-a l =     Below l.costs l.doublings l.triplings l.b l.m l.start l.initial.part l.part l.a l.after l.turns
+invariant-loop-a l = Below l.costs l.doublings l.triplings l.b l.m l.start l.initial.part l.part l.a l.after l.turns
 
 abbrev pub decreases-loop-a : goal.decreases-loop-a
 decreases-loop-a l = l.a

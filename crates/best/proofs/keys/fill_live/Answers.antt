@@ -1,6 +1,6 @@
 -- `fill_live` fills its row: in the column where the rest is 1 a word ends, from the first column outside on there is none; the
 -- columns below follow.
-use Rattle.std.proofs.Common.{refl, arith, rules}
+use Rattle.std.proofs.Common.{refl, arith}
 use Rattle.best.specs.KeyRowsLaws.{within_asked, within_told, beyond_asked, beyond_told}
 use Rattle.best.proofs.keys.fill_live.Goals as goal
 

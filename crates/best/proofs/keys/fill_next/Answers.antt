@@ -1,5 +1,5 @@
 -- `fill_next` fills its row in its part of the scratch, and stores the row's turns behind.
-use Rattle.std.proofs.Common.{arith, rules}
+use Rattle.std.proofs.Common.{arith}
 use Rattle.best.specs.KeyRowsLaws.{keys_lent, keys_room, keys_more}
 use Rattle.best.proofs.keys.fill_next.Goals as goal
 

@@ -1,6 +1,5 @@
 -- `fill_none` leaves no word from `from` on: at each turn none up to i.
-use Rattle.std.proofs.Common.{◌≡◌, ◌-◌, ◌≤◌, arith, rules}
-use Rattle.best.specs.KeyRows.{NoKeys}
+use Rattle.std.proofs.Common.{◌≡◌, arith}
 use Rattle.best.specs.KeyRowsLaws.{none_more}
 use Rattle.best.proofs.keys.fill_none.Goals as goal
 

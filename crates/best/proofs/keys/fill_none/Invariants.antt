@@ -1,7 +1,6 @@
 -- `fill_none` leaves no word from `from` on: at each turn none up to i.
-use Rattle.std.proofs.Common.{◌≡◌, ◌-◌, ◌≤◌, arith, rules}
+use Rattle.std.proofs.Common.{◌-◌, ◌≤◌}
 use Rattle.best.specs.KeyRows.{NoKeys}
-use Rattle.best.specs.KeyRowsLaws.{none_more}
 use Rattle.best.proofs.keys.fill_none.Given as goal
 
 abbrev pub invariant-loop-i : goal.invariant-loop-i

@@ -1,5 +1,5 @@
 -- `fill_row` fills its row: where nothing is left nothing is to be filled, and above the limit there is no word.
-use Rattle.std.proofs.Common.{arith, rules}
+use Rattle.std.proofs.Common.{arith}
 use Rattle.best.specs.KeyRowsLaws.{no_row, outside_row, top_of_lem}
 use Rattle.best.proofs.keys.fill_row.Goals as goal
 

@@ -1,5 +1,5 @@
 -- `fill_rows` fills the rows from the last one in which something is left down: at each turn those from b on are filled.
-use Rattle.std.proofs.Common.{◌≡◌, ◌≤◌, arith, rules}
+use Rattle.std.proofs.Common.{◌≡◌, ◌≤◌, arith}
 use borrow.Rule.Slice.PartMut.{put_mid}
 use Rattle.grid.specs.Grid.{rests_place}
 use Rattle.lent.specs.LentLaws.{used_none, used_on}
@@ -33,10 +33,13 @@ pub returns : goal.returns
 returns c =
     let e : c.loop-b.b ≡ 0 = omega arith in
     let d = rw e at c.loop-b.invariant.0 in
-    record { keys = d.keys; used = used_on (let begun : let a = c.args in
-    KeysFilled a.costs.now a.doublings a.triplings a.n c.put_rests-b.result a.scratch.now
-    (put_mid rests_place 42 a.scratch.now c.put_rests-b.new.part)
-    × (c.put_rests-b.result ≤ 41) = keys_none c.ranges.n.fits c.requires.size c.put_rests-b.ensures.value c.put_rests-b.ensures.part_after in begun).0.used d.used }
+    record {
+      keys = d.keys;
+      used = used_on (let begun : let a = c.args in
+          KeysFilled a.costs.now a.doublings a.triplings a.n c.put_rests-b.result a.scratch.now
+          (put_mid rests_place 42 a.scratch.now c.put_rests-b.new.part)
+          × (c.put_rests-b.result ≤ 41) = keys_none c.ranges.n.fits c.requires.size c.put_rests-b.ensures.value c.put_rests-b.ensures.part_after in begun).0.used d.used;
+    }
 
 pub shape_of-scratch : goal.shape_of-scratch
 shape_of-scratch c =

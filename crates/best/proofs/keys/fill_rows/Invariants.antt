@@ -1,10 +1,6 @@
 -- `fill_rows` fills the rows from the last one in which something is left down: at each turn those from b on are filled.
-use Rattle.std.proofs.Common.{◌≡◌, ◌≤◌, arith, rules}
-use borrow.Rule.Slice.PartMut.{put_mid}
-use Rattle.grid.specs.Grid.{rests_place}
-use Rattle.lent.specs.LentLaws.{used_none, used_on}
+use Rattle.std.proofs.Common.{◌≤◌}
 use Rattle.best.specs.KeyRows.{KeysFilled}
-use Rattle.best.specs.KeyRowsLaws.{keys_none, keys_next}
 use Rattle.best.proofs.keys.fill_rows.Given as goal
 
 abbrev pub invariant-loop-b : goal.invariant-loop-b

@@ -1,7 +1,6 @@
 -- `best_word` tells the best word row by row: the bits of the letters up to the walk's point are told. Each row leads to a later
 -- row or column.
-use Rattle.std.proofs.Common.{◌+◌, ◌-◌, ◌^◌, arith}
-use Rattle.best.specs.Walk.{WalkedTo}
+use Rattle.std.proofs.Common.{arith}
 use Rattle.best.specs.WalkLaws.{walk_begun, walk_low, ends_fit, walk_ended}
 use Rattle.best.proofs.walk.best_word.Goals as goal
 

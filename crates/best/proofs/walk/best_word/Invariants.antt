@@ -1,8 +1,7 @@
 -- `best_word` tells the best word row by row: the bits of the letters up to the walk's point are told. Each row leads to a later
 -- row or column.
-use Rattle.std.proofs.Common.{◌+◌, ◌-◌, ◌^◌, arith}
+use Rattle.std.proofs.Common.{◌+◌, ◌-◌, ◌^◌}
 use Rattle.best.specs.Walk.{WalkedTo}
-use Rattle.best.specs.WalkLaws.{walk_begun, walk_low, ends_fit, walk_ended}
 use Rattle.best.proofs.walk.best_word.Given as goal
 
 abbrev pub invariant-loop-w : goal.invariant-loop-w

@@ -1,5 +1,5 @@
 -- `turn_column` finds the lowest one bit from the column on, among the bits where b rises and that of the last column.
-use Rattle.std.proofs.Common.{arith, rules}
+use Rattle.std.proofs.Common.{arith}
 use Rattle.best.specs.TurnLaws.{last_told, low_short, column_found}
 use Rattle.best.proofs.walk.turn_column.Goals as goal
 

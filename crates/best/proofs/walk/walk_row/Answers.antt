@@ -1,5 +1,5 @@
 -- `walk_row` passes the columns up to the one that `turn_column` finds. There b rises, or the walk ends.
-use Rattle.std.proofs.Common.{arith, rules}
+use Rattle.std.proofs.Common.{arith}
 use Rattle.best.specs.WalkLaws.{row_low, rest_here, column_asked, not_back, marks_fit, row_ended, row_fits, row_risen}
 use Rattle.best.proofs.walk.walk_row.Goals as goal
 

@@ -2,7 +2,6 @@
 use mathlib.Core.Path.{refl, ap, ◌∙◌}
 use mathlib.Core.List.{List}
 use Prim.Native.Nat.{ℕ, ◌-◌}
-use borrow.Author.Rules.{rules}
 use borrow.Rule.Slice.PartMut.{put_mid}
 use lib.ListN.{length}
 use Rattle.frames.specs.PutLaws.{put_part}
@@ -11,5 +10,8 @@ use Rattle.frames.proofs.put.put_at.Goals as goal
 pub returns : goal.returns
 returns c =
     let a = c.args in
-    let out = a.out.now in record { value = refl; out_after = ap (λ (ys : List ℕ). put_mid a.at (length out - a.at) out ys) c.put_number.ensures
-          ∙ put_part a.at a.k a.n out c.requires }
+    let out = a.out.now in record {
+      value = refl;
+      out_after = ap (λ (ys : List ℕ). put_mid a.at (length out - a.at) out ys) c.put_number.ensures
+          ∙ put_part a.at a.k a.n out c.requires;
+    }

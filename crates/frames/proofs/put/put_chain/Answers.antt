@@ -1,7 +1,6 @@
 -- `put_chain` leaves the record right after the head.
 use mathlib.Core.Path.{sym}
 use native.Mathlib.Omega.{arith}
-use borrow.Author.Rules.{rules}
 use Rattle.frames.specs.PutLaws.{at_start, one_more, from_start}
 use Rattle.frames.specs.ReplyDigits.{chain_digits}
 use Rattle.frames.specs.ReplyDigitLaws.{length_head}

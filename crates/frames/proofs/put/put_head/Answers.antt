@@ -1,6 +1,5 @@
 -- `put_head` leaves the digits of the three numbers one after the other.
 use native.Mathlib.Omega.{arith}
-use borrow.Author.Rules.{rules}
 use Rattle.frames.specs.PutLaws.{first_digits, more_digits, from_start}
 use Rattle.frames.specs.ReplyDigits.{head_digits}
 use Rattle.frames.proofs.put.put_head.Goals as goal

@@ -1,6 +1,5 @@
 -- `put_letters` leaves the letters right after 00 and their number.
 use native.Mathlib.Omega.{arith}
-use borrow.Author.Rules.{rules}
 use Rattle.frames.specs.PutLaws.{first_digits, more_digits, one_more, from_start}
 use Rattle.frames.specs.ReplyDigits.{letters_digits}
 use Rattle.frames.proofs.put.put_letters.Goals as goal

@@ -1,11 +1,9 @@
 -- `put_numbers` leaves the digits of the numbers one after the other: after i turns those of the first i stand. The measure is the
 -- number that is left.
-use mathlib.Core.Path.{◌≡◌, refl}
-use Prim.Native.Nat.{◌+◌, ◌-◌, ◌*◌, ◌≤◌}
+use mathlib.Core.Path.{refl}
 use native.Mathlib.Omega.{arith}
 use borrow.Author.Rules.{rules}
-use lib.ListN.{length}
-use Rattle.frames.proofs.Values.{First, none_written, one_written, all_written}
+use Rattle.frames.proofs.Values.{none_written, one_written, all_written}
 use Rattle.frames.proofs.put.put_numbers.Goals as goal
 
 pub loop-i-init : goal.loop-i-init

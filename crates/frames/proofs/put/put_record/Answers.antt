@@ -1,6 +1,5 @@
 -- `put_record` leaves the digits of the count, of the two exponents and of the numbers one after the other.
 use native.Mathlib.Omega.{arith}
-use borrow.Author.Rules.{rules}
 use Rattle.frames.specs.PutLaws.{first_digits, more_digits, one_more}
 use Rattle.frames.specs.ReplyDigitLaws.{record_pieces}
 use Rattle.frames.proofs.put.put_record.Goals as goal

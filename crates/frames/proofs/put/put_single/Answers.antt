@@ -1,6 +1,5 @@
 -- `put_single` leaves the digits of 0 and of the number one after the other.
 use native.Mathlib.Omega.{arith}
-use borrow.Author.Rules.{rules}
 use Rattle.frames.specs.PutLaws.{first_digits, more_digits, from_start}
 use Rattle.frames.specs.ReplyDigits.{single_digits}
 use Rattle.frames.proofs.put.put_single.Goals as goal

@@ -1,5 +1,4 @@
 -- `best_in` asks for the best chain with the limits and the prices that stand in the line.
-use borrow.Author.Rules.{rules}
 use Rattle.frames.proofs.serve.best_in.Goals as goal
 
 pub returns : goal.returns

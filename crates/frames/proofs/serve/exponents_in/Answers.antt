@@ -1,7 +1,6 @@
 -- `exponents_in` reads two bytes one after the other.
 use mathlib.Core.Path.{◌∙◌}
 use native.Mathlib.Omega.{arith}
-use borrow.Author.Rules.{rules}
 use Rattle.chains.proofs.Divides.{same_part_lem}
 use Rattle.lines.specs.LineLaws.{field_fits}
 use Rattle.frames.specs.Replies.{exponents_from}

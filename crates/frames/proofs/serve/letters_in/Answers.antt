@@ -1,6 +1,5 @@
 -- `letters_in` tells how many items `letters_of` read, and 0 where it refused.
 use mathlib.Core.Path.{sym, ◌∙◌}
-use borrow.Author.Rules.{rules}
 use Rattle.frames.proofs.CallLaws.{read_number, read_refused}
 use Rattle.frames.proofs.serve.letters_in.Goals as goal
 

@@ -1,5 +1,4 @@
 -- `prices_in` reads the four prices of a line.
-use borrow.Author.Rules.{rules}
 use Rattle.frames.specs.Replies.{prices_in}
 use Rattle.frames.proofs.serve.prices_in.Goals as goal
 

@@ -5,7 +5,6 @@ use mathlib.Core.Bool.{Bool}
 use mathlib.Core.List.{List}
 use Prim.Native.Nat.{ℕ, ◌%◌, ◌^◌}
 use native.Mathlib.Omega.{arith}
-use borrow.Author.Rules.{rules}
 use Rattle.chains.specs.Chains.{Part}
 use Rattle.parts.specs.Parts.{largest_of, same_part}
 use Rattle.running.specs.Ran.{ran_of}

@@ -1,19 +1,17 @@
 -- `serve_at` replies with the chain at the position that the line asks for.
 use mathlib.Core.Path.{refl, ◌∙◌}
 use native.Mathlib.Omega.{arith}
-use borrow.Author.Rules.{rules}
 use Rattle.lines.specs.LineLaws.{field_fits}
 use Rattle.frames.specs.Replies.{served}
 use Rattle.frames.proofs.CallLaws.{found_fits, found_handled}
 use Rattle.frames.proofs.serve.serve_at.Goals as goal
 
 pub tell_found-requires : goal.tell_found-requires
-tell_found-requires c =
-    (
-      omega arith,
-      found_fits _ _ _ _ _ c.requires.numbers refl c.chain_at-found.ensures.answer c.chain_at-found.ensures.places (omega arith),
-      omega arith,
-    )
+tell_found-requires c = (
+  omega arith,
+  found_fits _ _ _ _ _ c.requires.numbers refl c.chain_at-found.ensures.answer c.chain_at-found.ensures.places (omega arith),
+  omega arith,
+)
 
 pub returns : goal.returns
 unfolding served

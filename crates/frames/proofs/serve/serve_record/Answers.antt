@@ -6,7 +6,6 @@ use mathlib.Core.Bool.{Bool}
 use mathlib.Core.List.{List}
 use Prim.Native.Nat.{ℕ, ◌≤◌}
 use native.Mathlib.Omega.{arith}
-use borrow.Author.Rules.{rules}
 use lib.ListN.{length, length-map}
 use Rattle.lent.specs.LentLaws.{scratch_enough}
 use Rattle.lent.specs.Lent.{scratch_size, little_scratch, scratch_left, memory_left}

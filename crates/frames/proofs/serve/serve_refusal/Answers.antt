@@ -1,6 +1,5 @@
 -- `serve_refusal` zeroes the scratch and tells the number.
 use mathlib.Core.Path.{◌∙◌}
-use borrow.Author.Rules.{rules}
 use Rattle.lent.specs.LentLaws.{served_zeroed}
 use Rattle.frames.proofs.serve.serve_refusal.Goals as goal
 

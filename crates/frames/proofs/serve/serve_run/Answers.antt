@@ -1,6 +1,5 @@
 -- `serve_run` tells the run and zeroes the scratch.
 use mathlib.Core.Path.{◌∙◌}
-use borrow.Author.Rules.{rules}
 use Rattle.lent.specs.LentLaws.{served_zeroed}
 use Rattle.frames.proofs.serve.serve_run.Goals as goal
 

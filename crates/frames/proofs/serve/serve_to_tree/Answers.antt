@@ -1,6 +1,5 @@
 -- `serve_to_tree` tells the letters and zeroes the scratch.
 use mathlib.Core.Path.{◌∙◌}
-use borrow.Author.Rules.{rules}
 use Rattle.lent.specs.LentLaws.{served_zeroed}
 use Rattle.frames.proofs.serve.serve_to_tree.Goals as goal
 

@@ -1,7 +1,6 @@
 -- `serve_tree` replies with the chain of the tree word that stands in the line.
 use mathlib.Core.Path.{refl}
 use native.Mathlib.Omega.{arith}
-use borrow.Author.Rules.{rules}
 use Rattle.lines.specs.Kinds.{tree_line, row_of}
 use Rattle.frames.specs.Replies.{served}
 use Rattle.frames.proofs.CallLaws.{read_room, read_all, found_fits, found_handled}

@@ -1,7 +1,6 @@
 -- `tell_run` tells what the run answers.
 use mathlib.Core.Path.{◌≡◌}
 use Prim.Native.Nat.{ℕ}
-use borrow.Author.Rules.{rules}
 use Rattle.running.specs.declared.Ran.{Ran}
 use Rattle.running.specs.declared.Ran.TheVariants as ran
 use Rattle.frames.specs.ReplyDigits.{single_digits}

@@ -1,6 +1,5 @@
 -- `tell_tree` hands on the items of the line.
 use native.Mathlib.Omega.{arith}
-use borrow.Author.Rules.{rules}
 use Rattle.lines.specs.Kinds.{to_tree_line, row_of}
 use Rattle.frames.specs.Replies.{served}
 use Rattle.frames.proofs.CallLaws.{read_room, read_all}

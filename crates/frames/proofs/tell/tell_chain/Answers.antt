@@ -1,7 +1,6 @@
 -- `tell_chain` leaves the digits of the chain, which end where the zeros begin.
 use mathlib.Core.Path.{sym}
 use native.Mathlib.Omega.{arith}
-use borrow.Author.Rules.{rules}
 use Rattle.frames.specs.ReplyDigitLaws.{length_chain}
 use Rattle.frames.proofs.CallLaws.{told_served}
 use Rattle.frames.proofs.tell.tell_chain.Goals as goal

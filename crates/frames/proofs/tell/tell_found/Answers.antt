@@ -1,6 +1,5 @@
 -- `tell_found` tells the chain whose part numbers are the first k in the places, or the refusal.
 use native.Mathlib.Omega.{arith}
-use borrow.Author.Rules.{rules}
 use lib.ListN.{length-take}
 use Rattle.frames.proofs.CallLaws.{found_chain, found_refused}
 use Rattle.frames.proofs.tell.tell_found.Goals as goal

@@ -1,7 +1,6 @@
 -- `tell_letters` leaves the digits of the letters, which end where the zeros begin.
 use mathlib.Core.Path.{sym}
 use native.Mathlib.Omega.{arith}
-use borrow.Author.Rules.{rules}
 use Rattle.frames.specs.ReplyDigitLaws.{length_letters}
 use Rattle.frames.proofs.CallLaws.{told_served}
 use Rattle.frames.proofs.tell.tell_letters.Goals as goal

@@ -1,7 +1,6 @@
 -- `tell_priced` leaves the digits of the chain and of its price right after them, and zeros from there on.
 use mathlib.Core.Path.{sym}
 use native.Mathlib.Omega.{arith}
-use borrow.Author.Rules.{rules}
 use Rattle.frames.specs.PutLaws.{at_start, more_digits, from_start}
 use Rattle.frames.specs.ReplyDigits.{priced_digits}
 use Rattle.frames.specs.ReplyDigitLaws.{length_chain}

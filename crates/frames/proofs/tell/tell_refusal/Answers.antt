@@ -1,6 +1,5 @@
 -- `tell_refusal` leaves the two digits of the number, and zeros from there on.
 use native.Mathlib.Omega.{arith}
-use borrow.Author.Rules.{rules}
 use Rattle.frames.proofs.CallLaws.{told_refused}
 use Rattle.frames.proofs.tell.tell_refusal.Goals as goal
 

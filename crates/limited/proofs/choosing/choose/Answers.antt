@@ -2,7 +2,6 @@
 -- the keys tells its letters.
 use mathlib.Core.Path.{refl}
 use native.Mathlib.Omega.{arith}
-use borrow.Author.Rules.{rules}
 use Rattle.best.specs.Chosen.{limits_of, prices_of}
 use Rattle.limited.specs.ChoosingLaws.{Begun, zero_chosen, fill_asked, within, filled_none, word_asked, filled_word}
 use Rattle.limited.proofs.choosing.choose.Goals as goal
@@ -25,39 +24,48 @@ fill_rows-requires c =
 
 pub offset_bounds-scratch-most : goal.offset_bounds-scratch-most
 offset_bounds-scratch-most c =
-    omega (arith, (let begun : let a = c.args in
-    Begun c.letter_costs-costs.result a.n (limits_of a.limits) (prices_of a.prices) c.at_most_64-most.result a.scratch.now = record {
-      costs_are = c.letter_costs-costs.ensures.value;
-      fits = c.ranges.n.fits;
-      some_left = omega arith;
-      cheap = c.letter_costs-costs.ensures.cheap;
-      most_is = c.at_most_64-most.ensures;
-      size = c.requires;
-    } in begun).most_is)
+    omega (
+      arith,
+      (let begun : let a = c.args in
+          Begun c.letter_costs-costs.result a.n (limits_of a.limits) (prices_of a.prices) c.at_most_64-most.result a.scratch.now = record {
+            costs_are = c.letter_costs-costs.ensures.value;
+            fits = c.ranges.n.fits;
+            some_left = omega arith;
+            cheap = c.letter_costs-costs.ensures.cheap;
+            most_is = c.at_most_64-most.ensures;
+            size = c.requires;
+          } in begun).most_is,
+    )
 
 pub bounds-scratch-most : goal.bounds-scratch-most
 bounds-scratch-most c =
-    omega (arith, within (let begun : let a = c.args in
-    Begun c.letter_costs-costs.result a.n (limits_of a.limits) (prices_of a.prices) c.at_most_64-most.result a.scratch.now = record {
-      costs_are = c.letter_costs-costs.ensures.value;
-      fits = c.ranges.n.fits;
-      some_left = omega arith;
-      cheap = c.letter_costs-costs.ensures.cheap;
-      most_is = c.at_most_64-most.ensures;
-      size = c.requires;
-    } in begun) c.fill_rows.ensures)
+    omega (
+      arith,
+      within (let begun : let a = c.args in
+          Begun c.letter_costs-costs.result a.n (limits_of a.limits) (prices_of a.prices) c.at_most_64-most.result a.scratch.now = record {
+            costs_are = c.letter_costs-costs.ensures.value;
+            fits = c.ranges.n.fits;
+            some_left = omega arith;
+            cheap = c.letter_costs-costs.ensures.cheap;
+            most_is = c.at_most_64-most.ensures;
+            size = c.requires;
+          } in begun) c.fill_rows.ensures,
+    )
 
 pub returns-then-key-ge-NONE : goal.returns-then-key-ge-NONE
 returns-then-key-ge-NONE c =
-    record { chosen_by = filled_none (let begun : let a = c.args in
-    Begun c.letter_costs-costs.result a.n (limits_of a.limits) (prices_of a.prices) c.at_most_64-most.result a.scratch.now = record {
-      costs_are = c.letter_costs-costs.ensures.value;
-      fits = c.ranges.n.fits;
-      some_left = omega arith;
-      cheap = c.letter_costs-costs.ensures.cheap;
-      most_is = c.at_most_64-most.ensures;
-      size = c.requires;
-    } in begun) c.fill_rows.ensures c.if-key-ge-NONE.true; only_first = c.fill_rows.ensures.used }
+    record {
+      chosen_by = filled_none (let begun : let a = c.args in
+          Begun c.letter_costs-costs.result a.n (limits_of a.limits) (prices_of a.prices) c.at_most_64-most.result a.scratch.now = record {
+            costs_are = c.letter_costs-costs.ensures.value;
+            fits = c.ranges.n.fits;
+            some_left = omega arith;
+            cheap = c.letter_costs-costs.ensures.cheap;
+            most_is = c.at_most_64-most.ensures;
+            size = c.requires;
+          } in begun) c.fill_rows.ensures c.if-key-ge-NONE.true;
+      only_first = c.fill_rows.ensures.used;
+    }
 
 pub cheapest_word-word-requires : goal.cheapest_word-word-requires
 cheapest_word-word-requires c =
@@ -73,15 +81,18 @@ cheapest_word-word-requires c =
 
 pub returns : goal.returns
 returns c =
-    record { chosen_by = filled_word (let begun : let a = c.args in
-    Begun c.letter_costs-costs.result a.n (limits_of a.limits) (prices_of a.prices) c.at_most_64-most.result a.scratch.now = record {
-      costs_are = c.letter_costs-costs.ensures.value;
-      fits = c.ranges.n.fits;
-      some_left = omega arith;
-      cheap = c.letter_costs-costs.ensures.cheap;
-      most_is = c.at_most_64-most.ensures;
-      size = c.requires;
-    } in begun) c.fill_rows.ensures c.if-key-ge-NONE.false c.cheapest_word-word.ensures; only_first = c.fill_rows.ensures.used }
+    record {
+      chosen_by = filled_word (let begun : let a = c.args in
+          Begun c.letter_costs-costs.result a.n (limits_of a.limits) (prices_of a.prices) c.at_most_64-most.result a.scratch.now = record {
+            costs_are = c.letter_costs-costs.ensures.value;
+            fits = c.ranges.n.fits;
+            some_left = omega arith;
+            cheap = c.letter_costs-costs.ensures.cheap;
+            most_is = c.at_most_64-most.ensures;
+            size = c.requires;
+          } in begun) c.fill_rows.ensures c.if-key-ge-NONE.false c.cheapest_word-word.ensures;
+      only_first = c.fill_rows.ensures.used;
+    }
 
 pub shape_of-scratch-then-key-ge-NONE : goal.shape_of-scratch-then-key-ge-NONE
 shape_of-scratch-then-key-ge-NONE c =

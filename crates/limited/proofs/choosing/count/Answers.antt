@@ -1,7 +1,6 @@
 -- `count` reads the count off the first block of a table of counts, for all parts allowed.
 use mathlib.Core.Path.{refl}
 use native.Mathlib.Omega.{arith}
-use borrow.Author.Rules.{rules}
 use Rattle.limited.specs.ChoosingLaws.{none_low, count_zero, count_in_lem}
 use Rattle.limited.proofs.choosing.count.Goals as goal
 

@@ -1,7 +1,6 @@
 -- `count_after` meets its contract, case by case: no part is allowed, the rest is 1, b cannot rise, b rises with a part.
 use mathlib.Core.Bool.{false}
 use native.Mathlib.Omega.{arith}
-use borrow.Author.Rules.{rules}
 use Rattle.limited.specs.CountCells.{count_none, count_one, count_fits, right_within, above_within, after_other, after_one}
 use Rattle.limited.proofs.table.count_after.Goals as goal
 

@@ -1,13 +1,10 @@
 -- `fill_counts` fills its block: at each turn the numbers for fewer than k parts are right.
 use mathlib.Core.Path.{◌≡◌}
-use Prim.Native.Nat.{suc, ◌-◌, ◌≤◌}
+use Prim.Native.Nat.{suc}
 use native.Mathlib.Numerals.{add-one}
 use native.Mathlib.Omega.{arith}
 use lib.ListN.{length-set}
-use borrow.Author.Rules.{rules}
-use Rattle.limited.specs.Table.{Filled}
 use Rattle.limited.specs.TableLaws.{filled_none, filled_more}
-use Rattle.limited.specs.Cells.{count_in}
 use Rattle.limited.specs.CountCells.{count_still}
 use Rattle.limited.proofs.table.fill_counts.Goals as goal
 

@@ -1,14 +1,7 @@
 -- `fill_keys` fills its block: at each turn the numbers for fewer than k parts are right.
-use mathlib.Core.Path.{◌≡◌}
 use Prim.Native.Nat.{suc, ◌-◌, ◌≤◌}
-use native.Mathlib.Numerals.{add-one}
-use native.Mathlib.Omega.{arith}
-use lib.ListN.{length-set}
-use borrow.Author.Rules.{rules}
 use Rattle.limited.specs.Table.{Filled}
-use Rattle.limited.specs.TableLaws.{filled_none, filled_more}
 use Rattle.limited.specs.Cells.{key_in}
-use Rattle.limited.specs.KeyCells.{key_still}
 use Rattle.limited.proofs.table.fill_keys.Given as goal
 
 abbrev pub invariant-loop-k : goal.invariant-loop-k

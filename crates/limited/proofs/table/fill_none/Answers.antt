@@ -1,12 +1,10 @@
 -- `fill_none` fills its block: at each turn no word has fewer than k parts.
 use mathlib.Core.Path.{◌≡◌, refl}
-use Prim.Native.Nat.{suc, ◌-◌, ◌≤◌}
+use Prim.Native.Nat.{suc}
 use native.Mathlib.Numerals.{add-one}
 use native.Mathlib.Omega.{arith}
 use lib.ListN.{length-set}
-use borrow.Author.Rules.{rules}
 use Rattle.best.specs.KeyTable.{no_key}
-use Rattle.limited.specs.Table.{Filled}
 use Rattle.limited.specs.TableLaws.{filled_none, filled_more}
 use Rattle.limited.proofs.table.fill_none.Goals as goal
 

@@ -3,10 +3,8 @@ use mathlib.Core.Path.{◌≡◌, refl, ap, ◌∙◌}
 use Prim.Native.Nat.{ℕ, suc, ◌+◌, ◌-◌, ◌*◌, ◌/◌, ◌^◌, ◌≤◌, ◌<◌}
 use native.Mathlib.Nat.{one-le-pow, pow-suc}
 use native.Mathlib.Omega.{arith}
-use borrow.Author.Rules.{rules}
-use Rattle.limited.specs.Table.{TableFilled, width, start}
+use Rattle.limited.specs.Table.{width, start}
 use Rattle.limited.specs.TableLaws.{start_next, start_last, start_low, rows_none, row_lent, row_more}
-use Rattle.limited.specs.Cells.{cell_in}
 use Rattle.limited.proofs.table.fill_rows.Goals as goal
 
 -- Row b − 1 is next.
@@ -28,38 +26,57 @@ row_size-up-requires c =
 
 pub overflow_sub-at : goal.overflow_sub-at
 overflow_sub-at c =
-    omega (arith, (let at_next : let l = c.loop-b in
-    (l.at ≡ c.row_size-up.result + 130 * start (l.b - 1)) × (l.power ≡ 3 ^ (l.b - 1)) × (l.at ≤ 174720) × (1 ≤ l.power) = let l = c.loop-b in
-    next l.b l.at c.row_size-up.result l.power c.loop-b-test.true l.invariant.3 l.invariant.1 c.row_size-up.ensures
-    l.invariant.2 in at_next))
+    omega (
+      arith,
+      (let at_next : let l = c.loop-b in
+          (l.at ≡ c.row_size-up.result + 130 * start (l.b - 1)) × (l.power ≡ 3 ^ (l.b - 1)) × (l.at ≤ 174720) × (1 ≤ l.power) = let l = c.loop-b in
+          next l.b l.at c.row_size-up.result l.power c.loop-b-test.true l.invariant.3 l.invariant.1 c.row_size-up.ensures
+          l.invariant.2 in at_next),
+    )
 
 pub offset_bounds-scratch-at : goal.offset_bounds-scratch-at
 offset_bounds-scratch-at c =
-    omega (arith, (let at_next : let l = c.loop-b in
-    (l.at ≡ c.row_size-up.result + 130 * start (l.b - 1)) × (l.power ≡ 3 ^ (l.b - 1)) × (l.at ≤ 174720) × (1 ≤ l.power) = let l = c.loop-b in
-    next l.b l.at c.row_size-up.result l.power c.loop-b-test.true l.invariant.3 l.invariant.1 c.row_size-up.ensures
-    l.invariant.2 in at_next))
+    omega (
+      arith,
+      (let at_next : let l = c.loop-b in
+          (l.at ≡ c.row_size-up.result + 130 * start (l.b - 1)) × (l.power ≡ 3 ^ (l.b - 1)) × (l.at ≤ 174720) × (1 ≤ l.power) = let l = c.loop-b in
+          next l.b l.at c.row_size-up.result l.power c.loop-b-test.true l.invariant.3 l.invariant.1 c.row_size-up.ensures
+          l.invariant.2 in at_next),
+    )
 
 pub slice_bounds-fill_row-count : goal.slice_bounds-fill_row-count
 slice_bounds-fill_row-count c =
-    omega (arith, (let at_next : let l = c.loop-b in
-    (l.at ≡ c.row_size-up.result + 130 * start (l.b - 1)) × (l.power ≡ 3 ^ (l.b - 1)) × (l.at ≤ 174720) × (1 ≤ l.power) = let l = c.loop-b in
-    next l.b l.at c.row_size-up.result l.power c.loop-b-test.true l.invariant.3 l.invariant.1 c.row_size-up.ensures
-    l.invariant.2 in at_next), c.requires.size, c.loop-b.invariant.0.used.same)
+    omega (
+      arith,
+      (let at_next : let l = c.loop-b in
+          (l.at ≡ c.row_size-up.result + 130 * start (l.b - 1)) × (l.power ≡ 3 ^ (l.b - 1)) × (l.at ≤ 174720) × (1 ≤ l.power) = let l = c.loop-b in
+          next l.b l.at c.row_size-up.result l.power c.loop-b-test.true l.invariant.3 l.invariant.1 c.row_size-up.ensures
+          l.invariant.2 in at_next),
+      c.requires.size,
+      c.loop-b.invariant.0.used.same,
+    )
 
 pub slice_bounds-fill_row-start : goal.slice_bounds-fill_row-start
 slice_bounds-fill_row-start c =
-    omega (arith, (let at_next : let l = c.loop-b in
-    (l.at ≡ c.row_size-up.result + 130 * start (l.b - 1)) × (l.power ≡ 3 ^ (l.b - 1)) × (l.at ≤ 174720) × (1 ≤ l.power) = let l = c.loop-b in
-    next l.b l.at c.row_size-up.result l.power c.loop-b-test.true l.invariant.3 l.invariant.1 c.row_size-up.ensures
-    l.invariant.2 in at_next), c.requires.size, c.loop-b.invariant.0.used.same)
+    omega (
+      arith,
+      (let at_next : let l = c.loop-b in
+          (l.at ≡ c.row_size-up.result + 130 * start (l.b - 1)) × (l.power ≡ 3 ^ (l.b - 1)) × (l.at ≤ 174720) × (1 ≤ l.power) = let l = c.loop-b in
+          next l.b l.at c.row_size-up.result l.power c.loop-b-test.true l.invariant.3 l.invariant.1 c.row_size-up.ensures
+          l.invariant.2 in at_next),
+      c.requires.size,
+      c.loop-b.invariant.0.used.same,
+    )
 
 pub nonzero_div-n : goal.nonzero_div-n
 nonzero_div-n c =
-    omega (arith, (let at_next : let l = c.loop-b in
-    (l.at ≡ c.row_size-up.result + 130 * start (l.b - 1)) × (l.power ≡ 3 ^ (l.b - 1)) × (l.at ≤ 174720) × (1 ≤ l.power) = let l = c.loop-b in
-    next l.b l.at c.row_size-up.result l.power c.loop-b-test.true l.invariant.3 l.invariant.1 c.row_size-up.ensures
-    l.invariant.2 in at_next))
+    omega (
+      arith,
+      (let at_next : let l = c.loop-b in
+          (l.at ≡ c.row_size-up.result + 130 * start (l.b - 1)) × (l.power ≡ 3 ^ (l.b - 1)) × (l.at ≤ 174720) × (1 ≤ l.power) = let l = c.loop-b in
+          next l.b l.at c.row_size-up.result l.power c.loop-b-test.true l.invariant.3 l.invariant.1 c.row_size-up.ensures
+          l.invariant.2 in at_next),
+    )
 
 pub fill_row-requires : goal.fill_row-requires
 fill_row-requires c =

@@ -2,7 +2,6 @@
 use mathlib.Core.Path.{refl, ◌∙◌}
 use mathlib.Core.Bool.{false}
 use native.Mathlib.Omega.{arith}
-use borrow.Author.Rules.{rules}
 use Rattle.limited.specs.KeyCells.{no_key_lem, last_key, right_within, right_fits, above_within, above_fits, after_other, after_one}
 use Rattle.limited.proofs.table.key_after.Goals as goal
 

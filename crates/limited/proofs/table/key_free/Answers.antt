@@ -3,7 +3,6 @@ use mathlib.Core.Path.{◌∙◌}
 use mathlib.Core.Bool.{true}
 use Prim.Native.Nat.{◌+◌}
 use native.Mathlib.Omega.{arith}
-use borrow.Author.Rules.{rules}
 use Rattle.limited.specs.KeyCells.{no_key_lem, last_key, above_within, above_fits, free_other, free_zero}
 use Rattle.limited.proofs.table.key_free.Goals as goal
 

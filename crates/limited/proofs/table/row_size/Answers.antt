@@ -1,6 +1,5 @@
 -- `row_size` meets its contract: it is the definition of the width.
 use mathlib.Core.Path.{refl}
-use borrow.Author.Rules.{rules}
 use Rattle.limited.specs.Table.{width}
 use Rattle.limited.proofs.table.row_size.Goals as goal
 

@@ -1,6 +1,5 @@
 -- `cheapest_word` takes a letter a turn, and the rest gets smaller.
 use native.Mathlib.Omega.{arith}
-use Rattle.limited.specs.Walk.{Walked}
 use Rattle.limited.specs.WalkLaws.{walk_start, ends_fit, walk_end}
 use Rattle.limited.proofs.walk.cheapest_word.Goals as goal
 

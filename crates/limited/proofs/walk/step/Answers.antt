@@ -1,7 +1,6 @@
 -- `step` takes the letter that the smaller key follows, a rise of a where both are equal.
 use Prim.Native.Nat.{◌%◌}
 use native.Mathlib.Omega.{arith}
-use borrow.Author.Rules.{rules}
 use Rattle.limited.specs.WalkLaws.{times_bit, bounds, right_in_lem, half_is, half_fits, may_rise, step_a, step_b}
 use Rattle.limited.proofs.walk.step.Goals as goal
 

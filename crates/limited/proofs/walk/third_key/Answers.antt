@@ -1,6 +1,5 @@
 -- `third_key` reads the block above only where b may rise, and there something is left.
 use native.Mathlib.Omega.{arith}
-use borrow.Author.Rules.{rules}
 use Rattle.limited.specs.WalkLaws.{bounds, above_in, above_fits, third_1, third_0, third_0_fits, third_shut, third_2}
 use Rattle.limited.proofs.walk.third_key.Goals as goal
 

@@ -1,7 +1,5 @@
 -- `giving::place` meets its contract: there is room for the rows, so the position is told.
 use mathlib.Core.Path.{◌∙◌}
-use native.Mathlib.Omega.{arith}
-use borrow.Author.Rules.{rules}
 use Rattle.lent.specs.LentLaws.{served_zeroed}
 use Rattle.ranking.specs.Giving.{placed_at}
 use Rattle.counting.specs.RankedLaws.{told_before}

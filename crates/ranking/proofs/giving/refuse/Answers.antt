@@ -1,6 +1,5 @@
 -- `giving::refuse` meets its contract: the scratch is zeroed.
 use mathlib.Core.Path.{refl, ◌∙◌}
-use borrow.Author.Rules.{rules}
 use Rattle.lent.specs.LentLaws.{served_zeroed}
 use Rattle.ranking.specs.Services.{answer_of}
 use Rattle.ranking.proofs.giving.refuse.Goals as goal

@@ -44,13 +44,12 @@ returns-in_default c =
     c.with_letter.ensures c.in_default.is
 
 pub loop-i-preserved : goal.loop-i-preserved
-loop-i-preserved c =
-    (
-      search rules,
-      sym c.in-Number.is
-          ∙ next _ _ _ c.loop-i-test.true c.loop-i.invariant.0 c.loop-i.invariant.1 _
-          c.with_letter.ensures,
-    )
+loop-i-preserved c = (
+  search rules,
+  sym c.in-Number.is
+      ∙ next _ _ _ c.loop-i-test.true c.loop-i.invariant.0 c.loop-i.invariant.1 _
+      c.with_letter.ensures,
+)
 
 pub returns : goal.returns
 returns c =

@@ -9,7 +9,6 @@ use native.Mathlib.Omega.{arith}
 use lib.Dec.{T}
 use lib.ListN.{length, take, drop, get_or, set, length-set, drop_of_length-le}
 use lib.Seq.{drop-cons, take-set-le, take-suc-set, append_snoc}
-use borrow.Author.Rules.{rules}
 use Rattle.chains.specs.Words.{Word, some_left}
 use Rattle.trees.specs.Trees.{produced}
 use Rattle.trees.specs.TreeOf.{number_after, path_from}
@@ -144,53 +143,84 @@ loop-i-init c =
 
 pub overflow_mul-path : goal.overflow_mul-path
 overflow_mul-path c =
-    omega (arith, (let known : let t = c.loop-i in
-    Bounds (length c.args.path.now) (get_or c.args.letters.now t.i 0) t.owed t.j = bounds c.loop-i.i c.loop-i.invariant c.loop-i-test.true in known))
+    omega (
+      arith,
+      (let known : let t = c.loop-i in
+          Bounds (length c.args.path.now) (get_or c.args.letters.now t.i 0) t.owed t.j = bounds c.loop-i.i c.loop-i.invariant c.loop-i-test.true in known),
+    )
 
 pub overflow_cast-path : goal.overflow_cast-path
 overflow_cast-path c =
-    omega (arith, (let known : let t = c.loop-i in
-    Bounds (length c.args.path.now) (get_or c.args.letters.now t.i 0) t.owed t.j = bounds c.loop-i.i c.loop-i.invariant c.loop-i-test.true in known))
+    omega (
+      arith,
+      (let known : let t = c.loop-i in
+          Bounds (length c.args.path.now) (get_or c.args.letters.now t.i 0) t.owed t.j = bounds c.loop-i.i c.loop-i.invariant c.loop-i-test.true in known),
+    )
 
 pub overflow_add-path : goal.overflow_add-path
 overflow_add-path c =
-    omega (arith, (let known : let t = c.loop-i in
-    Bounds (length c.args.path.now) (get_or c.args.letters.now t.i 0) t.owed t.j = bounds c.loop-i.i c.loop-i.invariant c.loop-i-test.true in known))
+    omega (
+      arith,
+      (let known : let t = c.loop-i in
+          Bounds (length c.args.path.now) (get_or c.args.letters.now t.i 0) t.owed t.j = bounds c.loop-i.i c.loop-i.invariant c.loop-i-test.true in known),
+    )
 
 pub bounds-path-j : goal.bounds-path-j
 bounds-path-j c =
-    omega (arith, (let known : let t = c.loop-i in
-    Bounds (length c.args.path.now) (get_or c.args.letters.now t.i 0) t.owed t.j = bounds c.loop-i.i c.loop-i.invariant c.loop-i-test.true in known), c.loop-i.invariant.same)
+    omega (
+      arith,
+      (let known : let t = c.loop-i in
+          Bounds (length c.args.path.now) (get_or c.args.letters.now t.i 0) t.owed t.j = bounds c.loop-i.i c.loop-i.invariant c.loop-i-test.true in known),
+      c.loop-i.invariant.same,
+    )
 
 pub overflow_cast-point : goal.overflow_cast-point
 overflow_cast-point c =
-    omega (arith, (let known : let t = c.loop-i in
-    Bounds (length c.args.path.now) (get_or c.args.letters.now t.i 0) t.owed t.j = bounds c.loop-i.i c.loop-i.invariant c.loop-i-test.true in known))
+    omega (
+      arith,
+      (let known : let t = c.loop-i in
+          Bounds (length c.args.path.now) (get_or c.args.letters.now t.i 0) t.owed t.j = bounds c.loop-i.i c.loop-i.invariant c.loop-i-test.true in known),
+    )
 
 pub overflow_add-owed : goal.overflow_add-owed
 overflow_add-owed c =
-    omega (arith, (let known : let t = c.loop-i in
-    Bounds (length c.args.path.now) (get_or c.args.letters.now t.i 0) t.owed t.j = bounds c.loop-i.i c.loop-i.invariant c.loop-i-test.true in known))
+    omega (
+      arith,
+      (let known : let t = c.loop-i in
+          Bounds (length c.args.path.now) (get_or c.args.letters.now t.i 0) t.owed t.j = bounds c.loop-i.i c.loop-i.invariant c.loop-i-test.true in known),
+    )
 
 pub nonzero_div-owed : goal.nonzero_div-owed
 nonzero_div-owed c =
-    omega (arith, (let known : let t = c.loop-i in
-    Bounds (length c.args.path.now) (get_or c.args.letters.now t.i 0) t.owed t.j = bounds c.loop-i.i c.loop-i.invariant c.loop-i-test.true in known))
+    omega (
+      arith,
+      (let known : let t = c.loop-i in
+          Bounds (length c.args.path.now) (get_or c.args.letters.now t.i 0) t.owed t.j = bounds c.loop-i.i c.loop-i.invariant c.loop-i-test.true in known),
+    )
 
 pub overflow_sub-owed : goal.overflow_sub-owed
 overflow_sub-owed c =
-    omega (arith, (let known : let t = c.loop-i in
-    Bounds (length c.args.path.now) (get_or c.args.letters.now t.i 0) t.owed t.j = bounds c.loop-i.i c.loop-i.invariant c.loop-i-test.true in known))
+    omega (
+      arith,
+      (let known : let t = c.loop-i in
+          Bounds (length c.args.path.now) (get_or c.args.letters.now t.i 0) t.owed t.j = bounds c.loop-i.i c.loop-i.invariant c.loop-i-test.true in known),
+    )
 
 pub overflow_add-owed-in-loop-i : goal.overflow_add-owed-in-loop-i
 overflow_add-owed-in-loop-i c =
-    omega (arith, (let known : let t = c.loop-i in
-    Bounds (length c.args.path.now) (get_or c.args.letters.now t.i 0) t.owed t.j = bounds c.loop-i.i c.loop-i.invariant c.loop-i-test.true in known))
+    omega (
+      arith,
+      (let known : let t = c.loop-i in
+          Bounds (length c.args.path.now) (get_or c.args.letters.now t.i 0) t.owed t.j = bounds c.loop-i.i c.loop-i.invariant c.loop-i-test.true in known),
+    )
 
 pub overflow_add-j : goal.overflow_add-j
 overflow_add-j c =
-    omega (arith, (let known : let t = c.loop-i in
-    Bounds (length c.args.path.now) (get_or c.args.letters.now t.i 0) t.owed t.j = bounds c.loop-i.i c.loop-i.invariant c.loop-i-test.true in known))
+    omega (
+      arith,
+      (let known : let t = c.loop-i in
+          Bounds (length c.args.path.now) (get_or c.args.letters.now t.i 0) t.owed t.j = bounds c.loop-i.i c.loop-i.invariant c.loop-i-test.true in known),
+    )
 
 pub loop-i-preserved : goal.loop-i-preserved
 loop-i-preserved c =

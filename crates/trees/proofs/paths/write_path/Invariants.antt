@@ -1,22 +1,15 @@
 -- The letters stored up to j and the path word of what is left, with what is owed, are the whole path word: this is the invariant.
 -- What is left is produced from some number, and what is owed there is one of the cases of `Owed`.
-use mathlib.Core.Path.{◌≡◌, refl, ◌∙◌}
-use mathlib.Core.List.{List, [], ◌∷◌, ◌++◌}
-use Prim.Native.Nat.{ℕ, suc, ◌+◌, ◌-◌, ◌*◌, ◌/◌, ◌%◌, ◌≤◌, ◌<◌}
-use native.Mathlib.Nat.{le_refl, div-le_self}
-use native.Mathlib.Numerals.{add-one}
-use native.Mathlib.Omega.{arith}
+use mathlib.Core.Path.{◌≡◌}
+use mathlib.Core.List.{List, ◌++◌}
+use Prim.Native.Nat.{ℕ, ◌+◌, ◌-◌, ◌≤◌}
 use lib.Dec.{T}
-use lib.ListN.{length, take, drop, get_or, set, length-set, drop_of_length-le}
-use lib.Seq.{drop-cons, take-set-le, take-suc-set, append_snoc}
-use borrow.Author.Rules.{rules}
-use Rattle.chains.specs.Words.{Word, some_left}
+use lib.ListN.{length, take, drop}
+use Rattle.chains.specs.Words.{Word}
 use Rattle.trees.specs.Trees.{produced}
-use Rattle.trees.specs.TreeOf.{number_after, path_from}
-use Rattle.trees.specs.Letters.{rising, first_letter, rising_low, letter_range}
-use Rattle.trees.specs.Owed.{Owed, none, Onward, one, two, three, onward, owed_few}
-use Rattle.trees.specs.Paths.{path_some, falls_at}
-use Rattle.trees.specs.Walk.{Readable}
+use Rattle.trees.specs.TreeOf.{path_from}
+use Rattle.trees.specs.Letters.{rising}
+use Rattle.trees.specs.Owed.{Owed}
 use Rattle.trees.proofs.paths.write_path.Given as goal
 
 -- w is the whole word, v what is left of it.

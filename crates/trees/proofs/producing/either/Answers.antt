@@ -4,7 +4,6 @@ use mathlib.Core.Bool.{Bool, ◌&&◌, ◌||◌, or-false}
 use Prim.Native.Nat.{ℕ, ◌<◌}
 use native.Mathlib.Omega.{arith}
 use lib.Dec.{eqb}
-use borrow.Author.Rules.{rules}
 use borrow.Author.Tests.{eq-eqb, ne_eqb}
 use Rattle.trees.proofs.producing.either.Goals as goal
 

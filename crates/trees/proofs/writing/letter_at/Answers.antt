@@ -1,8 +1,7 @@
 -- Each arm is the definition's own line.
 use mathlib.Core.Path.{◌≡◌, refl}
-use Prim.Native.Nat.{ℕ, ◌-◌, ◌≤◌}
+use Prim.Native.Nat.{ℕ, ◌≤◌}
 use native.Mathlib.Omega.{arith}
-use borrow.Author.Rules.{rules}
 use Rattle.trees.specs.TreeOf.{letter_at}
 use Rattle.trees.specs.Letters.{letter_range}
 use Rattle.trees.proofs.Remainders.{five}

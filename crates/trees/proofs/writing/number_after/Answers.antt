@@ -1,8 +1,7 @@
 -- Each arm is the definition's own line.
 use mathlib.Core.Path.{◌≡◌, refl}
-use Prim.Native.Nat.{ℕ, zero, suc, ◌-◌, ◌/◌, ◌≤◌}
+use Prim.Native.Nat.{ℕ, zero, suc, ◌/◌, ◌≤◌}
 use native.Mathlib.Omega.{arith}
-use borrow.Author.Rules.{rules}
 use Rattle.trees.specs.TreeOf.{number_after}
 use Rattle.trees.proofs.writing.number_after.Goals as goal
 

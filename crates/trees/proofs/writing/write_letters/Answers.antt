@@ -4,7 +4,6 @@ use mathlib.Core.List.{List, [], ◌++◌}
 use Prim.Native.Nat.{ℕ, ◌≤◌}
 use native.Mathlib.Omega.{arith}
 use lib.ListN.{length, drop}
-use borrow.Author.Rules.{rules}
 use borrow.Rule.Slice.PartMut.{mid_of, put_mid}
 use Rattle.chains.specs.Words.{Word}
 use Rattle.lent.specs.Lent.{zeros, filled}
@@ -29,5 +28,8 @@ write_lines-requires c =
 
 pub returns : goal.returns
 returns c =
-    record { value = c.write_lines.ensures.value; places_after = all _ c.args.places.now _ c.requires.0 c.requires.1 c.clear_u8.ensures _ _ c.write_lines.ensures.value
-          c.write_lines.ensures.places_after }
+    record {
+      value = c.write_lines.ensures.value;
+      places_after = all _ c.args.places.now _ c.requires.0 c.requires.1 c.clear_u8.ensures _ _ c.write_lines.ensures.value
+          c.write_lines.ensures.places_after;
+    }

@@ -7,8 +7,7 @@ use native.Mathlib.Numerals.{add-one}
 use native.Mathlib.Omega.{arith}
 use lib.ListN.{length, drop, get_or, set, length-append, length-drop}
 use lib.Seq.{drop-cons, set_at, append_snoc}
-use borrow.Author.Rules.{rules}
-use borrow.Author.Tests.{lt-ltb, le-ltb}
+use borrow.Author.Tests.{le-ltb}
 use Rattle.chains.specs.Words.{Word}
 use Rattle.trees.specs.TreeOf.{letter_at, number_after}
 use Rattle.trees.specs.Walk.{letters_by, letters_for}
@@ -98,6 +97,5 @@ shape_of-places c =
 
 pub returns : goal.returns
 returns c =
-    
     let told = (done c.loop-n.invariant c.loop-n-test.false) in
     record { value = told.0; places_after = told.1 }

@@ -1,13 +1,11 @@
 -- `meltsjuk_read_tree` turns the found chain into numbers, case by case of its outcome.
-use mathlib.Core.Path.{◌≡◌, refl, sym, ◌∙◌}
+use mathlib.Core.Path.{◌≡◌, refl}
 use Prim.Native.Nat.{ℕ}
 use native.Mathlib.Omega.{arith}
-use borrow.Author.Rules.{rules}
 use Rattle.ranking.specs.Services.{Outcome, refused, gives, answer_of}
 use Rattle.ranking.specs.declared.Found.TheVariants as found
 use Rattle.meltsjuk.specs.Answers.{outcome_status, number_or, position_or, parts_or}
-use Rattle.meltsjuk.proofs.meltsjuk_read_tree.Statement.{statement}
-use Rattle.meltsjuk.proofs.meltsjuk_read_tree.Tie as tie
+use Rattle.meltsjuk.proofs.meltsjuk_read_tree.Goals as goal
 
 -- x, y and z stood where n, the position and the number of parts are asked for.
 module _ (x y z : ℕ) where
@@ -27,30 +25,12 @@ module _ (x y z : ℕ) where
       let f : ◌≡◌ {A = ℕ} 0 1 = cc in
       absurd (omega arith)
 
-returns : tie.Need-returns
-returns c =
-    let m = c.before in
-    let q = m.before.before.before.before.before.before in
-    let (status, number, position, parts) = as_chain _ _ _ _ _ _ _ (sym m.sum.given.1 ∙ q.read-tree.ensures.0) in
-    (status, (number, (position, (parts, q.read-tree.ensures.1))))
+pub returns-in-Chain : goal.returns-in-Chain
+returns-in-Chain c =
+    let (status, number, position, parts) = as_chain _ _ _ _ _ _ _ (c.in-Chain.ensures.answer) in
+    record { answer = status; n = number; position = position; k = parts; places = c.read_tree.ensures.places; scratch = c.read_tree.ensures.scratch }
 
-returns-2 : tie.Need-returns-2
-returns-2 c =
-    let m = c.before in
-    let q = m.before.before.before.before.before.before in
-    let (status, number, position, parts) = as_refusal _ _ _ _ _ (sym m.number.given.1 ∙ q.read-tree.ensures.0) in
-    (status, (number, (position, (parts, q.read-tree.ensures.1))))
-
-pub meltsjuk-read-tree-spec : {M : Type 1} → statement M
-meltsjuk-read-tree-spec =
-    tie.close
-    (tie.spec
-    (λ c κs. search rules)
-    (λ c. search rules)
-    (λ c. search rules)
-    (λ c. search rules)
-    (λ c. search rules)
-    returns
-    (λ c. search rules)
-    (λ c. search rules)
-    returns-2)
+pub returns-in-Refused : goal.returns-in-Refused
+returns-in-Refused c =
+    let (status, number, position, parts) = as_refusal _ _ _ _ _ (c.in-Refused.ensures.answer) in
+    record { answer = status; n = number; position = position; k = parts; places = c.read_tree.ensures.places; scratch = c.read_tree.ensures.scratch }

@@ -1,13 +1,11 @@
 -- `meltsjuk_write_tree` turns the number of letters into a number, case by case.
-use mathlib.Core.Path.{◌≡◌, refl, sym, ◌∙◌}
+use mathlib.Core.Path.{◌≡◌, refl}
 use Prim.Native.Nat.{ℕ}
 use native.Mathlib.Omega.{arith}
-use borrow.Author.Rules.{rules}
 use Rattle.words.specs.declared.Written.TheVariants as written
 use Rattle.trees.specs.Answers.{TreeWord, no_tree, tree_word, tree_told}
 use Rattle.meltsjuk.specs.Answers.{tree_status, letters_or}
-use Rattle.meltsjuk.proofs.meltsjuk_write_tree.Statement.{statement}
-use Rattle.meltsjuk.proofs.meltsjuk_write_tree.Tie as tie
+use Rattle.meltsjuk.proofs.meltsjuk_write_tree.Goals as goal
 
 -- x stood where the number of letters is asked for.
 module _ (x : ℕ) where
@@ -25,28 +23,12 @@ module _ (x : ℕ) where
       let z : ◌≡◌ {A = ℕ} 0 1 = cc in
       absurd (omega arith)
 
-returns : tie.Need-returns
-returns c =
-    let m = c.before in
-    let q = m.before.before.before.before in
-    let (status, number) = as_letters _ _ _ (sym m.letters.given.1 ∙ q.write-tree.ensures.0) in
-    (status, (number, q.write-tree.ensures.1))
+pub returns-in-Letters : goal.returns-in-Letters
+returns-in-Letters c =
+    let (status, number) = as_letters _ _ _ (c.in-Letters.ensures.answer) in
+    record { answer = status; k = number; places = c.write_tree.ensures.places }
 
-returns-2 : tie.Need-returns-2
-returns-2 c =
-    let m = c.before in
-    let q = m.before.before.before.before in
-    let (status, number) = as_refusal _ _ _ (sym m.number.given.1 ∙ q.write-tree.ensures.0) in
-    (status, (number, q.write-tree.ensures.1))
-
-pub meltsjuk-write-tree-spec : {M : Type 1} → statement M
-meltsjuk-write-tree-spec =
-    tie.close
-    (tie.spec
-    (λ c κs. search rules)
-    (λ c. search rules)
-    (λ c. search rules)
-    (λ c. search rules)
-    returns
-    (λ c. search rules)
-    returns-2)
+pub returns-in-Refused : goal.returns-in-Refused
+returns-in-Refused c =
+    let (status, number) = as_refusal _ _ _ (c.in-Refused.ensures.answer) in
+    record { answer = status; k = number; places = c.write_tree.ensures.places }

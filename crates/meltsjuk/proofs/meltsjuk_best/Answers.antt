@@ -1,15 +1,13 @@
 -- `meltsjuk_best` turns the best chain's answer into numbers, case by case of its outcome.
-use mathlib.Core.Path.{◌≡◌, refl, sym, ◌∙◌}
+use mathlib.Core.Path.{◌≡◌, refl}
 use Prim.Native.Nat.{ℕ}
 use native.Mathlib.Omega.{arith}
-use borrow.Author.Rules.{rules}
 use Rattle.chains.specs.Best.{Prices, price}
 use Rattle.ranking.specs.Services.{Outcome, refused, gives}
 use Rattle.best.specs.Chosen.{best_of}
 use Rattle.best.specs.declared.Best.TheVariants as best
 use Rattle.meltsjuk.specs.Answers.{outcome_status, position_or, parts_or, price_or}
-use Rattle.meltsjuk.proofs.meltsjuk_best.Statement.{statement}
-use Rattle.meltsjuk.proofs.meltsjuk_best.Tie as tie
+use Rattle.meltsjuk.proofs.meltsjuk_best.Goals as goal
 
 -- x, y and z stood where the position, the number of parts and the price are asked for.
 module _ (π : Prices) (x y z : ℕ) where
@@ -29,36 +27,14 @@ module _ (π : Prices) (x y z : ℕ) where
       let f : ◌≡◌ {A = ℕ} 0 1 = cc in
       absurd (omega arith)
 
-returns : tie.Need-returns
-returns c =
-    let m = c.before in
-    let q = m.before.before.before.before.before.before in
-    let p = q.before.before.before in
-    let (status, position, parts, cost) = as_chain _ _ _ _ _ _ _ _ (sym m.i.given.1 ∙ q.best_chain.ensures.0) in
-    rw (← p.before.limits-by.ensures, ← p.prices-by.ensures)
-    (status, (position, (parts, (cost, q.best_chain.ensures.1))))
+pub returns-in-Chain : goal.returns-in-Chain
+returns-in-Chain c =
+    let (status, position, parts, cost) = as_chain _ _ _ _ _ _ _ _ (c.in-Chain.ensures.answer) in
+    rw (← c.limits_by-limits.ensures, ← c.prices_by-prices.ensures)
+    (record { answer = status; position = position; k = parts; price = cost; places = c.best_chain.ensures.places; scratch = c.best_chain.ensures.scratch })
 
-returns-2 : tie.Need-returns-2
-returns-2 c =
-    let m = c.before in
-    let q = m.before.before.before.before.before.before in
-    let p = q.before.before.before in
-    let (status, position, parts, cost) = as_refusal _ _ _ _ _ _ (sym m.number.given.1 ∙ q.best_chain.ensures.0) in
-    rw (← p.before.limits-by.ensures, ← p.prices-by.ensures)
-    (status, (position, (parts, (cost, q.best_chain.ensures.1))))
-
-pub meltsjuk-best-spec : {M : Type 1} → statement M
-meltsjuk-best-spec =
-    tie.close
-    (tie.spec
-    (λ c κs. search rules)
-    (λ c κs. search rules)
-    (λ c κs. search rules)
-    (λ c. search rules)
-    (λ c. search rules)
-    (λ c. search rules)
-    (λ c. search rules)
-    returns
-    (λ c. search rules)
-    (λ c. search rules)
-    returns-2)
+pub returns-in-Refused : goal.returns-in-Refused
+returns-in-Refused c =
+    let (status, position, parts, cost) = as_refusal _ _ _ _ _ _ (c.in-Refused.ensures.answer) in
+    rw (← c.limits_by-limits.ensures, ← c.prices_by-prices.ensures)
+    (record { answer = status; position = position; k = parts; price = cost; places = c.best_chain.ensures.places; scratch = c.best_chain.ensures.scratch })

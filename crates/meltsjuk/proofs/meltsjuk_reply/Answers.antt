@@ -1,10 +1,9 @@
 -- `meltsjuk_reply` answers the length of the reply, since a refusal is two digits, and 1 is refused only where too little is lent.
-use mathlib.Core.Path.{◌≡◌, refl, sym, ◌∙◌}
+use mathlib.Core.Path.{◌≡◌, refl}
 use mathlib.Core.Bool.{Bool, true, false}
 use mathlib.Core.List.{List}
 use Prim.Native.Nat.{ℕ, ◌≤◌}
 use native.Mathlib.Omega.{arith}
-use borrow.Author.Rules.{rules}
 use lib.ListN.{length}
 use Rattle.digits.specs.DigitLaws.{length_digits}
 use Rattle.frames.specs.Replies.{Reply, refused_as, served_with, digits_in, reply_to, reply_of, replied_of, answer_to}
@@ -12,8 +11,7 @@ use Rattle.frames.specs.declared.Replied.{Replied}
 use Rattle.frames.specs.declared.Replied.TheVariants as replied
 use Rattle.meltsjuk.specs.Answers.{digits_or_refusal}
 use Rattle.frames.specs.Refusals.{reply_refusal, two_or_more}
-use Rattle.meltsjuk.proofs.meltsjuk_reply.Statement.{statement}
-use Rattle.meltsjuk.proofs.meltsjuk_reply.Tie as tie
+use Rattle.meltsjuk.proofs.meltsjuk_reply.Goals as goal
 
 -- The answer of `reply` and the number that is told: 1 for refusal 1, two digits for a later refusal, or as many as `reply` tells.
 by_answer : (little : Bool) (line : List ℕ) (P : Replied → ℕ → Type 0) → P (replied.Refused 1) 1
@@ -49,37 +47,14 @@ module _ (little : Bool) (line : List ℕ) where
       (λ r l e h. refl)
       (λ j e h. let z : ◌≡◌ {A = ℕ} 0 1 = cc in absurd (omega arith))
 
-returns : tie.Need-returns
-returns c =
-    let m = c.before in
-    let q = m.before.before.before.before.before.before in
-    (told_digits _ _ _ (sym m.digits.given.1 ∙ q.reply.ensures.0), q.reply.ensures.1)
+pub returns-in-Digits : goal.returns-in-Digits
+returns-in-Digits c =
+    record { answer = told_digits _ _ _ (c.in-Digits.ensures.answer); out = c.reply.ensures.out; scratch = c.reply.ensures.scratch }
 
-returns-2 : tie.Need-returns-2
-returns-2 c =
-    let m = c.before.before in
-    let q = m.before.before.before.before.before.before in
-    (told_1 _ _ _ (sym m.number.given.1 ∙ q.reply.ensures.0) c.if1.true, q.reply.ensures.1)
+pub returns-then-number-eq1 : goal.returns-then-number-eq1
+returns-then-number-eq1 c =
+    record { answer = told_1 _ _ _ (c.in-Refused.ensures.answer) c.if-number-eq1.true; out = c.reply.ensures.out; scratch = c.reply.ensures.scratch }
 
-returns-3 : tie.Need-returns-3
-returns-3 c =
-    let m = c.before.before in
-    let q = m.before.before.before.before.before.before in
-    (told_later _ _ _ (sym m.number.given.1 ∙ q.reply.ensures.0) c.if1.false, q.reply.ensures.1)
-
-pub meltsjuk-reply-spec : {M : Type 1} → statement M
-meltsjuk-reply-spec =
-    tie.close
-    (tie.spec
-    (λ c κs. search rules)
-    (λ c. search rules)
-    (λ c. search rules)
-    (λ c. search rules)
-    (λ c. search rules)
-    returns
-    (λ c. search rules)
-    (λ c. search rules)
-    returns-2
-    (λ c. search rules)
-    (λ c. search rules)
-    returns-3)
+pub returns-else-number-eq1 : goal.returns-else-number-eq1
+returns-else-number-eq1 c =
+    record { answer = told_later _ _ _ (c.in-Refused.ensures.answer) c.if-number-eq1.false; out = c.reply.ensures.out; scratch = c.reply.ensures.scratch }

@@ -1,13 +1,11 @@
 -- `meltsjuk_place` turns the answer of placing into numbers, case by case of its outcome.
-use mathlib.Core.Path.{◌≡◌, refl, sym, ◌∙◌}
+use mathlib.Core.Path.{◌≡◌, refl}
 use Prim.Native.Nat.{ℕ}
 use native.Mathlib.Omega.{arith}
-use borrow.Author.Rules.{rules}
 use Rattle.ranking.specs.Services.{Outcome, refused, gives, position_of}
 use Rattle.ranking.specs.declared.Position.TheVariants as told
 use Rattle.meltsjuk.specs.Answers.{outcome_status, position_or}
-use Rattle.meltsjuk.proofs.meltsjuk_place.Statement.{statement}
-use Rattle.meltsjuk.proofs.meltsjuk_place.Tie as tie
+use Rattle.meltsjuk.proofs.meltsjuk_place.Goals as goal
 
 -- x stood where the position is asked for.
 module _ (x : ℕ) where
@@ -25,28 +23,12 @@ module _ (x : ℕ) where
       let f : ◌≡◌ {A = ℕ} 0 1 = cc in
       absurd (omega arith)
 
-returns : tie.Need-returns
-returns c =
-    let m = c.before in
-    let q = m.before.before.before.before in
-    let (status, position) = as_position _ _ _ (sym m.told.given.1 ∙ q.place_record.ensures.0) in
-    (status, (position, q.place_record.ensures.1))
+pub returns-in-At : goal.returns-in-At
+returns-in-At c =
+    let (status, position) = as_position _ _ _ (c.in-At.ensures.answer) in
+    record { answer = status; position = position; scratch = c.place_record.ensures.scratch }
 
-returns-2 : tie.Need-returns-2
-returns-2 c =
-    let m = c.before in
-    let q = m.before.before.before.before in
-    let (status, position) = as_refusal _ _ _ (sym m.number.given.1 ∙ q.place_record.ensures.0) in
-    (status, (position, q.place_record.ensures.1))
-
-pub meltsjuk-place-spec : {M : Type 1} → statement M
-meltsjuk-place-spec =
-    tie.close
-    (tie.spec
-    (λ c κs. search rules)
-    (λ c. search rules)
-    (λ c. search rules)
-    (λ c. search rules)
-    returns
-    (λ c. search rules)
-    returns-2)
+pub returns-in-Refused : goal.returns-in-Refused
+returns-in-Refused c =
+    let (status, position) = as_refusal _ _ _ (c.in-Refused.ensures.answer) in
+    record { answer = status; position = position; scratch = c.place_record.ensures.scratch }
