@@ -1,2 +1,2 @@
-// 003's chains and words as definitions, with their theory: all of it stands in specs/. No code.
+// 003's chains and words as definitions (specs/), with their theory (proofs/). No code.
 #![tactic(auto)]

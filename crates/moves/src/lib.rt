@@ -1,2 +1,2 @@
-// The moves of a chain: theory alone. The code is in the crate bench.
+// The moves of a chain: definitions (specs/) and theory (proofs/) alone. The code is in the crate bench.
 #![tactic(auto)]
