@@ -1,10 +1,10 @@
 -- The bench. What a reader must believe, in this order: Sound (what a bench holds in its lent numbers), Benches (what each service
--- answers and leaves). The theorems on them:
+-- answers and leaves). The theorems on them, in proofs/:
 --   Promises     a call on a sound bench, said of its present chain in 003's words
 --   Sequences    any calls one after the other: the bench holds chains of its n, and saving and coming back lead back
--- On the way: Judging (whether a bench is sound), Kept (what stays where one state changes), BenchLaws (what a service answers and
--- leaves, as its code finds it out).
--- What the private functions cite:
+-- On the way: Judging (whether a bench is sound), and in proofs/ Kept (what stays where one state changes) and BenchLaws (what a
+-- service answers and leaves, as its code finds it out).
+-- What the private functions cite, all but Telling in proofs/:
 --   PlanLoops, MovedRows  moves of rows
 --   ChainTest, StateLaws  whether a state is a chain, copying states
 --   Opening               opening a bench
@@ -12,14 +12,4 @@
 pub mod Sound
 pub mod Judging
 pub mod Benches
-pub mod Promises
-pub mod Sequences
-pub mod Kept
-pub mod BenchLaws
-pub mod StateLaws
-pub mod ChainTest
-pub mod PlanLoops
-pub mod MovedRows
-pub mod Opening
 pub mod Telling
-pub mod TellingLaws

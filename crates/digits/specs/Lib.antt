@@ -1,5 +1,3 @@
--- Hexadecimal digits and numbers. Digits holds the definitions, DigitLaws the theory; CapitalLaws says that the case of letters
--- makes no difference.
+-- Hexadecimal digits and numbers. Digits holds the definitions. In proofs/ DigitLaws is the theory, and CapitalLaws says that the case
+-- of letters makes no difference.
 pub mod Digits
-pub mod DigitLaws
-pub mod CapitalLaws

@@ -18,10 +18,10 @@ use Rattle.ranking.specs.RoundTrips.{numbers_left_lem, lent_all}
 use Rattle.ranking.specs.declared.Found.{Found}
 use Rattle.ranking.specs.declared.Found.TheVariants as found
 use Rattle.digits.specs.Digits.{digits_of}
-use Rattle.digits.specs.DigitLaws.{length_digits}
+use Rattle.digits.proofs.DigitLaws.{length_digits}
 use Rattle.lines.specs.Kinds.{Kind, row_of}
 use Rattle.lines.specs.Lines.{items_in, Fit, Items, unread, read, read_items, items_code, items_left}
-use Rattle.lines.specs.LineLaws.{items_fit}
+use Rattle.lines.proofs.LineLaws.{items_fit}
 use Rattle.lines.specs.declared.Items.TheVariants as told
 use Rattle.frames.specs.Put.{put_at}
 use Rattle.frames.specs.PutLaws.{at_start, put_filled}

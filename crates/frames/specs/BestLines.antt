@@ -18,7 +18,7 @@ use Rattle.best.specs.Demand3.{given_is_best, refused_none}
 use Rattle.digits.specs.Digits.{digits_of}
 use Rattle.lines.specs.Kinds.{best_line}
 use Rattle.lines.specs.Lines.{field, fit, shape_of}
-use Rattle.lines.specs.LineLaws.{field_below}
+use Rattle.lines.proofs.LineLaws.{field_below}
 use Rattle.frames.specs.ReplyDigits.{chain_digits, priced_digits, numbers_at}
 use Rattle.frames.specs.ReadBack.{ChainRead, price_read}
 use Rattle.frames.specs.Replies.{refused_as, served_with, priced_reply, limits_in, prices_in, served, reply_to}

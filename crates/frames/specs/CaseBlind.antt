@@ -6,11 +6,11 @@
 use Rattle.std.specs.Prelude.{◌≡◌, refl, Bool, true, false, List, ℕ}
 use Rattle.std.proofs.Common.{sym, ap, ◌∙◌}
 use Rattle.digits.specs.Digits.{is_written, every, capitals}
-use Rattle.digits.specs.CapitalLaws.{capitals_written}
+use Rattle.digits.proofs.CapitalLaws.{capitals_written}
 use Rattle.lines.specs.Kinds.{Kind, count_line, best_line, at_line, record_line, word_line, next_line, run_line}
 use Rattle.lines.specs.Kinds.{tree_line, to_tree_line}
 use Rattle.lines.specs.Lines.{Shape, unfit, fit, shape_of}
-use Rattle.lines.specs.CapitalLaws.{field_of_capitals, items_of_capitals, shape_of_capitals}
+use Rattle.lines.proofs.CapitalLaws.{field_of_capitals, items_of_capitals, shape_of_capitals}
 use Rattle.frames.specs.Replies.{digits_in, limits_in, prices_in, exponents_from, served, reply_by_shape, reply_to, reply_of, replied_of}
 use Rattle.frames.specs.Replies.{answer_to, out_left}
 use Rattle.frames.specs.ReplyLaws.{reply_frame}

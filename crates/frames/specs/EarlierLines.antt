@@ -16,10 +16,10 @@ use Rattle.ranking.specs.Services.{Outcome, refused, gives}
 use Rattle.best.specs.Chosen.{best_outcome}
 use Rattle.best.specs.Demand3.{one_price_outcome, one_price_given}
 use Rattle.digits.specs.Digits.{is_digit, every, all_digits}
-use Rattle.digits.specs.DigitLaws.{every_append}
+use Rattle.digits.proofs.DigitLaws.{every_append}
 use Rattle.lines.specs.Kinds.{row_of, kind_of, best_line}
 use Rattle.lines.specs.Lines.{field, bytes_in, fit, shape_of, Proper}
-use Rattle.lines.specs.LineLaws.{kind_byte, shape_kind, unfit_kind_length, line_fit}
+use Rattle.lines.proofs.LineLaws.{kind_byte, shape_kind, unfit_kind_length, line_fit}
 use Rattle.frames.specs.Replies.{Reply, refused_as, priced_reply, limits_in, prices_in, served, reply_by_shape, reply_to}
 use Rattle.frames.specs.ReadBack.{field_after, field_within}
 use Rattle.frames.specs.ReplyLaws.{reply_fit}

@@ -21,14 +21,14 @@ use Rattle.chains.proofs.Readers.{readers_good}
 use Rattle.chains.proofs.RoundTrip.{word_reads}
 use Rattle.chains.proofs.Bounds.{word_bound, parts_bound}
 use Rattle.parts.specs.Parts.{part_number, largest_part, largest_of}
-use Rattle.parts.specs.Largest.{same_part_lem}
+use Rattle.parts.proofs.Largest.{same_part_lem}
 use Rattle.ranking.specs.Services.{Outcome, refused, gives, at_position, of_word, next_of, of_record}
 use Rattle.ranking.specs.Outcomes.{at_past, at_chain, of_chain, next_below, next_last, record_chain}
 use Rattle.digits.specs.Digits.{is_digit, every, all_digits, digits_of}
-use Rattle.digits.specs.DigitLaws.{every_append, length_digits, all_digits_digits}
+use Rattle.digits.proofs.DigitLaws.{every_append, length_digits, all_digits_digits}
 use Rattle.lines.specs.Kinds.{Kind, at_line, record_line, word_line, next_line, row_of, kind_of}
 use Rattle.lines.specs.Lines.{field, fields, count_in, bytes_in, items_in, Fit}
-use Rattle.lines.specs.LineLaws.{line_fit, kind_byte, row_small}
+use Rattle.lines.proofs.LineLaws.{line_fit, kind_byte, row_small}
 use Rattle.frames.specs.ReplyDigits.{values_digits, largest_digits, record_digits, head_digits, position_at, record_at, largest_at}
 use Rattle.frames.specs.ReplyDigits.{chain_digits}
 use Rattle.frames.specs.ReplyDigitLaws.{length_values, length_largest, length_head, every_values}

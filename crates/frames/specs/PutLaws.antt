@@ -8,7 +8,7 @@ use borrow.Rule.Slice.PartMut.{mid_of, put_mid, Post-is, mid_len}
 use Rattle.std.proofs.Math.Seq.{drop-append-add}
 use Rattle.lent.specs.LentLaws.{length_zeros}
 use Rattle.digits.specs.Digits.{digits_of, put_digits}
-use Rattle.digits.specs.DigitLaws.{length_digits, put_room}
+use Rattle.digits.proofs.DigitLaws.{length_digits, put_room}
 use Rattle.lent.specs.Lent.{zeros, filled}
 use Rattle.lent.specs.Parts.{part_lent}
 use Rattle.frames.specs.Put.{put_at}

@@ -10,9 +10,9 @@ use Rattle.std.proofs.Math.ListN.{length}
 use Rattle.std.proofs.lemmas.List.{take-append-le, drop-append-le}
 use Rattle.std.proofs.Math.Seq.{drop-append-add}
 use Rattle.parts.specs.Parts.{largest_of}
-use Rattle.parts.specs.Largest.{largest_small}
+use Rattle.parts.proofs.Largest.{largest_small}
 use Rattle.digits.specs.Digits.{digits_of}
-use Rattle.digits.specs.DigitLaws.{length_digits, number_digits}
+use Rattle.digits.proofs.DigitLaws.{length_digits, number_digits}
 use Rattle.lines.specs.Lines.{field, fields}
 use Rattle.frames.specs.ReplyDigits.{single_digits, values_digits, numbers_digits, largest_digits, record_digits, head_digits}
 use Rattle.frames.specs.ReplyDigits.{position_at, record_at, largest_at, numbers_at, chain_digits, priced_digits, letters_digits}

@@ -13,7 +13,7 @@ use Rattle.std.proofs.lemmas.Bool.{eqb-false}
 use Rattle.chains.specs.Chains.{Chained, total}
 use Rattle.chains.specs.Listing.{position}
 use Rattle.parts.specs.Parts.{part_number, largest_part, largest_of}
-use Rattle.parts.specs.Largest.{largest_of_parts, same_part_lem}
+use Rattle.parts.proofs.Largest.{largest_of_parts, same_part_lem}
 use Rattle.words.specs.Records.{record_parts, InTable, Burned, judged_of}
 use Rattle.words.specs.RecordLaws.{in_table, judged_sum}
 use Rattle.words.specs.WordLaws.{numbers_of_parts, chain_judged}
@@ -25,7 +25,7 @@ use Rattle.ranking.specs.Refusals.{record_refusals}
 use Rattle.digits.specs.Digits.{all_digits}
 use Rattle.lines.specs.Kinds.{Kind, record_line, run_line, to_tree_line, row_of, kind_of}
 use Rattle.lines.specs.Lines.{field, count_in, bytes_in, items_in, bad_length, fit, shape_of}
-use Rattle.lines.specs.LineLaws.{length_proper, unfit_length, shape_kind, unfit_kind_length}
+use Rattle.lines.proofs.LineLaws.{length_proper, unfit_length, shape_kind, unfit_kind_length}
 use Rattle.frames.specs.ReplyDigits.{chain_digits}
 use Rattle.frames.specs.Replies.{Reply, refused_as, served_with, chain_reply, exponents_in, tells_largest, or_sixteen}
 use Rattle.frames.specs.Replies.{served, reply_by_shape, reply_to}

@@ -12,7 +12,7 @@ use Rattle.lent.specs.Lent.{filled}
 use Rattle.digits.specs.Digits.{every, all_digits, digits_of}
 use Rattle.lines.specs.Kinds.{Kind, kinds, kind_of}
 use Rattle.lines.specs.Lines.{Shape, unfit, fit, field, bytes_in, bad_length, Proper, shape_of_kind, shape_of}
-use Rattle.lines.specs.LineLaws.{passes, each_kind, no_digit, no_kind}
+use Rattle.lines.proofs.LineLaws.{passes, each_kind, no_digit, no_kind}
 use Rattle.frames.specs.Replies.{refused_as, digits_in, served, reply_row_of, refusals_of, reply_by_shape, reply_to, reply_of, out_left}
 use Rattle.frames.specs.ServedLaws.{among, among_passes, ReplyIn, made}
 

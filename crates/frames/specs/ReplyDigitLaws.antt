@@ -5,7 +5,7 @@ use Rattle.std.proofs.Common.{append-nil, append_assoc, mul-zero, mul-suc, add-o
 use Rattle.chains.specs.Chains.{Part}
 use Rattle.parts.specs.Parts.{largest_of}
 use Rattle.digits.specs.Digits.{every, digits_of}
-use Rattle.digits.specs.DigitLaws.{every_append, length_digits}
+use Rattle.digits.proofs.DigitLaws.{every_append, length_digits}
 use Rattle.frames.specs.ReplyDigits.{single_digits, values_digits, numbers_digits, largest_digits, record_digits, head_digits}
 use Rattle.frames.specs.ReplyDigits.{record_at, numbers_at, chain_digits, priced_digits, letters_digits, letters_at}
 

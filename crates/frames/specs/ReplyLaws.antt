@@ -12,14 +12,14 @@ use Rattle.chains.specs.Listing.{position}
 use Rattle.chains.proofs.Counts.{count_fits}
 use Rattle.chains.proofs.PositionsOfChains.{at_position_lem}
 use Rattle.parts.specs.Parts.{part_number, largest_part}
-use Rattle.parts.specs.Largest.{largest_of_chain}
+use Rattle.parts.proofs.Largest.{largest_of_chain}
 use Rattle.words.specs.RecordLaws.{InTable, judged_sum}
 use Rattle.words.specs.WordLaws.{chain_judged}
 use Rattle.lines.specs.Kinds.{Kind, kind_of}
 use Rattle.lines.specs.Lines.{field, Shape, unfit, fit, shape_of}
-use Rattle.lines.specs.LineLaws.{fit_line, reply_515}
+use Rattle.lines.proofs.LineLaws.{fit_line, reply_515}
 use Rattle.lines.specs.Stream.{unbroken}
-use Rattle.lines.specs.StreamLaws.{digits_unbroken}
+use Rattle.lines.proofs.StreamLaws.{digits_unbroken}
 use Rattle.frames.specs.ReplyDigits.{largest_at, chain_digits}
 use Rattle.frames.specs.ReadBack.{Fitting, ChainRead, chain_read}
 use Rattle.frames.specs.Replies.{served_with, digits_in, served, reply_by_shape, reply_to, reply_of}

@@ -16,11 +16,11 @@ use Rattle.words.specs.RecordLaws.{judged_sum}
 use Rattle.words.specs.WordLaws.{chain_judged}
 use Rattle.words.specs.Refusals.{Outside}
 use Rattle.running.specs.Ran.{ran_of}
-use Rattle.running.specs.RanLaws.{Modulus, ResidueBy, ran_residue, run_refusals}
+use Rattle.running.proofs.RanLaws.{Modulus, ResidueBy, ran_residue, run_refusals}
 use Rattle.running.specs.declared.Ran.{Ran}
 use Rattle.running.specs.declared.Ran.TheVariants as ran
 use Rattle.digits.specs.Digits.{is_digit, every, digits_of}
-use Rattle.digits.specs.DigitLaws.{every_append, length_digits, all_digits_digits}
+use Rattle.digits.proofs.DigitLaws.{every_append, length_digits, all_digits_digits}
 use Rattle.lines.specs.Kinds.{run_line, row_of}
 use Rattle.lines.specs.Lines.{field, items_in, fit, shape_of}
 use Rattle.frames.specs.ReplyDigits.{single_digits, record_digits}

@@ -19,17 +19,17 @@ use Rattle.ranking.specs.Refusals.{word_refusals, next_refusals, record_refusals
 use Rattle.best.specs.Chosen.{or_none, best_outcome}
 use Rattle.best.specs.Demand3.{given_is_best}
 use Rattle.trees.specs.Answers.{of_tree, TreeWord, no_tree, tree_word, record_tree}
-use Rattle.trees.specs.AnswerLaws.{tree_gives, tree_refusals, record_tree_lem, record_tree_refusals, tree_short}
+use Rattle.trees.proofs.AnswerLaws.{tree_gives, tree_refusals, record_tree_lem, record_tree_refusals, tree_short}
 use Rattle.running.specs.Ran.{ran_of}
-use Rattle.running.specs.RanLaws.{run_refusals}
+use Rattle.running.proofs.RanLaws.{run_refusals}
 use Rattle.running.specs.declared.Ran.{Ran}
 use Rattle.running.specs.declared.Ran.TheVariants as ran
 use Rattle.digits.specs.Digits.{is_written, every, digits_of}
-use Rattle.digits.specs.DigitLaws.{every_append, length_digits, written_digits}
+use Rattle.digits.proofs.DigitLaws.{every_append, length_digits, written_digits}
 use Rattle.lines.specs.Kinds.{Kind, count_line, best_line, at_line, record_line, word_line, next_line, run_line}
 use Rattle.lines.specs.Kinds.{tree_line, to_tree_line}
 use Rattle.lines.specs.Lines.{field, items_in}
-use Rattle.lines.specs.LineLaws.{field_below}
+use Rattle.lines.proofs.LineLaws.{field_below}
 use Rattle.frames.specs.ReplyDigits.{single_digits, record_digits, head_digits, numbers_at, chain_digits, priced_digits, letters_digits}
 use Rattle.frames.specs.ReplyDigits.{letters_at}
 use Rattle.frames.specs.ReplyDigitLaws.{length_single, length_chain, length_priced, length_letters, every_values}

@@ -24,8 +24,8 @@ use Rattle.words.specs.Refusals.{Outside}
 use Rattle.ranking.specs.Services.{Outcome, refused, gives}
 use Rattle.trees.specs.TreeOf.{tree_of}
 use Rattle.trees.specs.Answers.{of_tree, TreeWord, no_tree, tree_word, record_tree}
-use Rattle.trees.specs.AnswerLaws.{tree_gives, TreeRefusals, tree_lifted, tree_refusals, record_tree_lem, record_tree_refusals}
-use Rattle.trees.specs.AnswerLaws.{chain_tree_written, chain_tree_read, tree_short, tree_low}
+use Rattle.trees.proofs.AnswerLaws.{tree_gives, TreeRefusals, tree_lifted, tree_refusals, record_tree_lem, record_tree_refusals}
+use Rattle.trees.proofs.AnswerLaws.{chain_tree_written, chain_tree_read, tree_short, tree_low}
 use Rattle.digits.specs.Digits.{every}
 use Rattle.lines.specs.Kinds.{tree_line, to_tree_line, row_of, kind_of}
 use Rattle.lines.specs.Lines.{field, fields, items_in, fit, shape_of}

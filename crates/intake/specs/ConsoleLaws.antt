@@ -10,7 +10,7 @@ use Rattle.std.proofs.lemmas.List.{length-replicate}
 use Rattle.lent.specs.Lent.{zeros, filled}
 use Rattle.lent.specs.LentLaws.{filled_again}
 use Rattle.lines.specs.Stream.{finished, unfinished, last_line, replies_to}
-use Rattle.lines.specs.StreamLaws.{unfinished_append, kept_unfinished}
+use Rattle.lines.proofs.StreamLaws.{unfinished_append, kept_unfinished}
 use Rattle.frames.specs.Replies.{reply_of}
 use Rattle.frames.specs.ReplyLaws.{first_515}
 use Rattle.stream.specs.Answers.{little, Lending, Goes, used_of, fed_of, kept_left, replies_left, Moves, ended_of}

@@ -10,7 +10,7 @@ use borrow.Rule.Slice.PartMut.{mid_of, put_mid, same_len_mid}
 use Rattle.lent.specs.Parts.{part_lent, part_back, kept_behind}
 use Rattle.lent.specs.LentLaws.{used_none}
 use Rattle.grid.specs.Rests.{third_of_rest, half_of_rest, rest_dead, row_above, point_bounds}
-use Rattle.parts.specs.Tests.{below, at_below}
+use Rattle.parts.proofs.Tests.{below, at_below}
 use Rattle.limited.specs.Services.{table_size}
 use Rattle.limited.specs.Table.{Block, UpTo, BlockLent, Filled, Row, RowFrom, RowLent, RowFilled, width, start, RowsFrom, TableFilled}
 

@@ -8,7 +8,7 @@ use native.Mathlib.Omega.{arith}
 use lib.ListN.{length, drop}
 use Rattle.lines.specs.Kinds.{Kind, kind_of, row_of}
 use Rattle.lines.specs.Lines.{field, fields, bytes_in, count_in, items_in, read_items, items_code, items_left}
-use Rattle.lines.specs.LineLaws.{length_fields, row_small}
+use Rattle.lines.proofs.LineLaws.{length_fields, row_small}
 use Rattle.lines.specs.Calls.{row_for, span_items, InLine}
 use Rattle.lines.specs.declared.Row.{Row}
 use Rattle.lines.specs.declared.Span.{Span}

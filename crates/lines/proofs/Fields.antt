@@ -7,7 +7,7 @@ use native.Mathlib.Numerals.{add-one}
 use lib.ListN.{length, get_or, drop, set, length-set}
 use lib.Seq.{drop-cons, set_at}
 use Rattle.lines.specs.Lines.{field, fields}
-use Rattle.lines.specs.LineLaws.{length_fields, fields_suc}
+use Rattle.lines.proofs.LineLaws.{length_fields, fields_suc}
 
 -- The first i fields of `width` bytes, from byte `at` on, stand in the places.
 pub record Stand (line : List ℕ) (at width : ℕ) (entry l : List ℕ) (i : ℕ) : Type 0 where

@@ -18,10 +18,10 @@ use Rattle.counting.specs.declared.Counted.TheVariants as counted
 use Rattle.best.specs.Chosen.{chosen_of}
 use Rattle.best.specs.declared.Chosen.TheVariants as chosen
 use Rattle.trees.specs.Answers.{of_tree, TreeWord, no_tree, tree_word, record_tree, lent_tree}
-use Rattle.trees.specs.AnswerLaws.{tree_refusals, record_tree_refusals}
+use Rattle.trees.proofs.AnswerLaws.{tree_refusals, record_tree_refusals}
 use Rattle.frames.specs.ReplyLaws.{reply_frame}
 use Rattle.running.specs.Ran.{ran_of}
-use Rattle.running.specs.RanLaws.{run_refusals}
+use Rattle.running.proofs.RanLaws.{run_refusals}
 use Rattle.running.specs.declared.Ran.{Ran}
 use Rattle.running.specs.declared.Ran.TheVariants as ran
 use Rattle.words.specs.Records.{judged_of}
@@ -31,7 +31,7 @@ use Rattle.words.specs.declared.Judged.TheVariants as judged
 use Rattle.bench.specs.Sound.{saved_in, Sound}
 use Rattle.bench.specs.Judging.{sound?}
 use Rattle.bench.specs.Benches as bench
-use Rattle.bench.specs.BenchLaws.{decided_each}
+use Rattle.bench.proofs.BenchLaws.{decided_each}
 use Rattle.bench.specs.declared.Benched.TheVariants as benched
 use Rattle.bench.specs.declared.Walked.{Walked}
 use Rattle.bench.specs.declared.Walked.TheVariants as walked

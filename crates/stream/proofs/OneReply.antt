@@ -15,7 +15,7 @@ use lib.Seq.{length-take-le, set_split}
 use Rattle.lent.specs.LentLaws.{length_filled, filled_first, enough, enough_zeroed}
 use Rattle.lent.specs.Lent.{filled, too_little, scratch_left, scratch_size, Enough}
 use Rattle.lent.specs.Parts.{part_lent, part_back}
-use Rattle.digits.specs.DigitLaws.{length_digits}
+use Rattle.digits.proofs.DigitLaws.{length_digits}
 use Rattle.frames.specs.Replies.{Reply, refused_as, served_with, digits_in, reply_to, reply_of, replied_of, answer_to, out_left}
 use Rattle.frames.specs.ReplyLaws.{reply_short}
 use Rattle.stream.specs.Answers.{behind_one}

@@ -12,8 +12,8 @@ use lib.Seq.{length-take-le, take_all, take-add, take-suc, take_at, drop_at}
 use Rattle.lent.specs.LentLaws.{used_on, used_filled}
 use Rattle.lent.specs.Lent.{filled, OnlyFirst, scratch_size}
 use Rattle.lines.specs.Stream.{finished, unfinished, replies_to}
-use Rattle.lines.specs.StreamLaws.{finished_append, finished_stretch, finished_line, replies_append, take_first}
-use Rattle.lines.specs.StreamLaws.{unfinished_append, unfinished_stretch, unfinished_line}
+use Rattle.lines.proofs.StreamLaws.{finished_append, finished_stretch, finished_line, replies_append, take_first}
+use Rattle.lines.proofs.StreamLaws.{unfinished_append, unfinished_stretch, unfinished_line}
 use Rattle.frames.specs.Replies.{reply_of}
 use Rattle.frames.specs.ReplyLaws.{first_515}
 use Rattle.stream.specs.Answers.{Lending, behind, behind_one, Goes}

@@ -10,8 +10,8 @@ use mathlib.Core.List.{List, [], ◌∷◌, map, flatten}
 use Rattle.std.proofs.Math.ListN.{length-map}
 use Rattle.digits.specs.Digits.{capital, capitals}
 use Rattle.lines.specs.Stream.{finished, unfinished, last_line, lines_of, replies_to}
-use Rattle.lines.specs.CapitalLaws.{take_map, finished_capitals, unfinished_capitals, last_capitals, lines_of_capitals}
-use Rattle.lines.specs.CapitalLaws.{replies_of_capitals}
+use Rattle.lines.proofs.CapitalLaws.{take_map, finished_capitals, unfinished_capitals, last_capitals, lines_of_capitals}
+use Rattle.lines.proofs.CapitalLaws.{replies_of_capitals}
 use Rattle.frames.specs.Replies.{reply_of}
 use Rattle.frames.specs.CaseBlind.{digits_case_blind}
 use Rattle.stream.specs.Answers.{behind_one, behind, replies_left, Goes, fed_of, ended_of}

@@ -7,7 +7,7 @@ use Rattle.std.proofs.Common.{ap, ◌∙◌, arith}
 use mathlib.Core.List.{List, [], ◌∷◌, ◌++◌, flatten, map}
 use Rattle.std.proofs.lemmas.List.{length-map}
 use Rattle.lines.specs.Stream.{finished, unfinished, last_line, lines_of, replies_to, answers_to}
-use Rattle.lines.specs.StreamLaws.{replies_lines, answers_lines}
+use Rattle.lines.proofs.StreamLaws.{replies_lines, answers_lines}
 use Rattle.frames.specs.Replies.{reply_of}
 use Rattle.frames.specs.ReplyLaws.{first_515, reply_unbroken}
 use Rattle.stream.specs.Answers.{little, replies_left, fed_of, kept_left, ended_of}

@@ -21,11 +21,11 @@ use Rattle.words.specs.PackedLaws.{PackedFrom}
 use Rattle.ranking.specs.Services.{of_word}
 use Rattle.trees.specs.Trees.{produced}
 use Rattle.trees.specs.TreeOf.{letter_at, number_after, up_next, letters_in, tree_of, path_from}
-use Rattle.trees.specs.Letters.{letter_range}
-use Rattle.trees.specs.Paths.{up_low}
-use Rattle.trees.specs.TreeLaws.{led, read_path, produced_short, chain_tree}
+use Rattle.trees.proofs.Letters.{letter_range}
+use Rattle.trees.proofs.WalkedPaths.{up_low}
+use Rattle.trees.proofs.TreeLaws.{led, read_path, produced_short, chain_tree}
 use Rattle.trees.specs.Answers.{of_tree}
-use Rattle.trees.specs.AnswerLaws.{tree_read}
+use Rattle.trees.proofs.AnswerLaws.{tree_read}
 use Rattle.trees.specs.Walk.{Readable, letters_by, letters_for}
 
 -- ---- reading

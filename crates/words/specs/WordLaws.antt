@@ -14,7 +14,7 @@ use Rattle.chains.specs.Words.{Word, word_of, chain_of, reads}
 use Rattle.chains.proofs.RoundTrip.{chain_word_chain, word_reads}
 use Rattle.chains.proofs.Bounds.{parts_bound}
 use Rattle.parts.specs.Parts.{limit, part_number}
-use Rattle.parts.specs.Numbers.{parts_complete, part_of_number, number_of_part}
+use Rattle.parts.proofs.Numbers.{parts_complete, part_of_number, number_of_part}
 use Rattle.lent.specs.Lent.{filled}
 use Rattle.words.specs.Records.{record_parts, beyond, judged_of}
 use Rattle.words.specs.RecordLaws.{in_table, known_cons, judged_sum}

@@ -1,7 +1,7 @@
 -- The state of the name is copied over the present one.
 use Rattle.bench.specs.Sound.{saved_in}
-use Rattle.bench.specs.BenchLaws.{back_little, back_lost, back_refused, back_never, back_done, back_as, told_refused}
-use Rattle.bench.specs.BenchLaws.{told_left}
+use Rattle.bench.proofs.BenchLaws.{back_little, back_lost, back_refused, back_never, back_done, back_as, told_refused}
+use Rattle.bench.proofs.BenchLaws.{told_left}
 use Rattle.bench.proofs.come_back.Goals as goal
 
 pub returns-then-bench-lt-BENCH : goal.returns-then-bench-lt-BENCH

@@ -2,8 +2,8 @@
 use mathlib.Core.Path.{refl, ◌∙◌}
 use Rattle.bench.specs.Sound.{state_at}
 use Rattle.bench.specs.Benches.{with_state}
-use Rattle.bench.specs.BenchLaws.{sound_held, move_little, move_lost, move_done, move_stuck, told_refused, told_left}
-use Rattle.bench.specs.StateLaws.{same_present}
+use Rattle.bench.proofs.BenchLaws.{sound_held, move_little, move_lost, move_done, move_stuck, told_refused, told_left}
+use Rattle.bench.proofs.StateLaws.{same_present}
 use Rattle.bench.proofs.move_chain.Goals as goal
 
 pub returns-then-bench-lt-BENCH : goal.returns-then-bench-lt-BENCH

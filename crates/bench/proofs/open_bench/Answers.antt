@@ -2,7 +2,7 @@
 use mathlib.Core.Path.{sym, ◌∙◌}
 use Rattle.words.specs.RecordLaws.{judged_sum}
 use Rattle.bench.specs.Benches.{opened_as}
-use Rattle.bench.specs.BenchLaws.{open_little, open_judged, told_refused, told_left}
+use Rattle.bench.proofs.BenchLaws.{open_little, open_judged, told_refused, told_left}
 use Rattle.bench.proofs.open_bench.Goals as goal
 
 pub returns-then-bench-lt-BENCH : goal.returns-then-bench-lt-BENCH

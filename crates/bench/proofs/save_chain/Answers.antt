@@ -1,5 +1,5 @@
 -- The present state is copied over the state of the name, and the name counts as saved.
-use Rattle.bench.specs.BenchLaws.{save_little, save_lost, save_refused, save_done, saved_as, told_refused, told_left}
+use Rattle.bench.proofs.BenchLaws.{save_little, save_lost, save_refused, save_done, saved_as, told_refused, told_left}
 use Rattle.bench.proofs.save_chain.Goals as goal
 
 pub returns-then-bench-lt-BENCH : goal.returns-then-bench-lt-BENCH

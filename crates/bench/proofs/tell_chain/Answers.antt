@@ -3,7 +3,7 @@ use mathlib.Core.Path.{refl}
 use Rattle.lent.specs.LentLaws.{cleared}
 use Rattle.bench.specs.Sound.{number_in, state_at}
 use Rattle.bench.specs.Benches.{with_state}
-use Rattle.bench.specs.BenchLaws.{tell_few, tell_little, tell_lost, tell_done, tellable}
+use Rattle.bench.proofs.BenchLaws.{tell_few, tell_little, tell_lost, tell_done, tellable}
 use Rattle.bench.proofs.tell_chain.Goals as goal
 
 pub returns-then-places-lt64 : goal.returns-then-places-lt64

@@ -3,7 +3,7 @@ use native.Mathlib.Omega.{arith}
 use lib.Count.{ones-le}
 use Rattle.bench.specs.Sound.{number_in, state_at}
 use Rattle.bench.specs.Benches.{with_state}
-use Rattle.bench.specs.BenchLaws.{walk_little, walk_lost, walk_made, sound_held}
+use Rattle.bench.proofs.BenchLaws.{walk_little, walk_lost, walk_made, sound_held}
 use Rattle.bench.proofs.walk_chain.Goals as goal
 
 pub returns-then-bench-lt-BENCH : goal.returns-then-bench-lt-BENCH

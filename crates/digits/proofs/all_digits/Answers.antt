@@ -3,7 +3,7 @@
 use Rattle.std.proofs.Common.{◌≡◌, ℕ, ◌+◌, ◌<◌, ◌≤◌, Bool, ◌&&◌, List, length, get_or, drop, sym, ◌∙◌, arith, drop_of_length-le, rules}
 use mathlib.Core.Bool.{and_assoc, and-true}
 use Rattle.digits.specs.Digits.{is_digit, every, all_digits}
-use Rattle.digits.specs.DigitLaws.{every_from}
+use Rattle.digits.proofs.DigitLaws.{every_from}
 use Rattle.digits.proofs.all_digits.Goals as goal
 
 -- The character at i is looked at too.

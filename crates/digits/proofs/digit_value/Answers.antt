@@ -2,7 +2,7 @@
 use Rattle.std.proofs.Common.{◌≡◌, ℕ, ◌<◌, ◌≤◌, refl, arith}
 use mathlib.Core.Option.{Option, get_or}
 use Rattle.digits.specs.Digits.{digit_value, value_or0}
-use Rattle.digits.specs.DigitLaws.{by_value}
+use Rattle.digits.proofs.DigitLaws.{by_value}
 use Rattle.digits.proofs.digit_value.Goals as goal
 
 -- What the answer 255 for none tells of the answer 0 for none.

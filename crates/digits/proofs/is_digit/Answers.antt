@@ -2,7 +2,7 @@
 use Rattle.std.proofs.Common.{◌≡◌, ℕ, ltb, refl, ap, ◌∙◌, lt-ltb}
 use mathlib.Core.Option.{Option, get_or}
 use Rattle.digits.specs.Digits.{is_some, is_digit}
-use Rattle.digits.specs.DigitLaws.{by_value}
+use Rattle.digits.proofs.DigitLaws.{by_value}
 use Rattle.digits.proofs.is_digit.Goals as goal
 
 pub returns : goal.returns

@@ -2,7 +2,7 @@
 -- the same buffer at every turn. The measure is the number of digits that are left.
 use Rattle.std.proofs.Common.{◌≡◌, ℕ, suc, ◌/◌, ◌%◌, ◌<◌, ◌≤◌, List, ◌++◌, length, drop, set, sym, refl, ◌∙◌, append_assoc, arith, drop-cons, get_or-set_same, drop-set-lt, lt-length-set, rules}
 use Rattle.digits.specs.Digits.{digit_of, digits_of}
-use Rattle.digits.specs.DigitLaws.{put_room, put_no_room}
+use Rattle.digits.proofs.DigitLaws.{put_room, put_no_room}
 use Rattle.digits.proofs.put_number.Goals as goal
 
 -- One digit more, d at the place j, before those that stand from i on.

@@ -2,7 +2,7 @@
 -- remainder as the whole. The measure is what is left of the part.
 use Rattle.std.proofs.Common.{◌≡◌, ℕ, ◌+◌, ◌*◌, ◌%◌, ◌^◌, ◌<◌, ◌≤◌, List, length, get_or, drop, sym, ◌∙◌, mod-eq_of_lt, arith, drop_of_length-le, rules}
 use Rattle.digits.specs.Digits.{value_or0, read_from, number_of}
-use Rattle.digits.specs.DigitLaws.{value_below, read_from_from, read_from_mod}
+use Rattle.digits.proofs.DigitLaws.{value_below, read_from_from, read_from_mod}
 use Rattle.digits.proofs.read_number.Invariants.{Reads}
 use Rattle.digits.proofs.read_number.Goals as goal
 

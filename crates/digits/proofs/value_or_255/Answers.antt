@@ -5,7 +5,7 @@ use Rattle.std.proofs.Common.{◌≡◌, ℕ, ◌+◌, ◌*◌, ◌/◌, ◌%◌
 use mathlib.Core.Option.{get_or}
 use lib.Bits.{bit_or, or_block, or_step, or_zero_r}
 use Rattle.digits.specs.Digits.{digit_value}
-use Rattle.digits.specs.DigitLaws.{value_decimal, value_capital, value_small, value_none}
+use Rattle.digits.proofs.DigitLaws.{value_decimal, value_capital, value_small, value_none}
 use Rattle.digits.proofs.value_or_255.Goals as goal
 
 -- A number with its bit 5 set: the other bits are as they were.

@@ -6,7 +6,7 @@ use Prim.Native.Nat.{ℕ}
 use Rattle.lent.specs.Lent.{scratch_left, too_little, Enough, scratch_size, memory_left}
 use Rattle.lent.specs.LentLaws.{little_scratch_lem, little_places, enough}
 use Rattle.lines.specs.Lines.{shape_of, shape_code}
-use Rattle.lines.specs.LineLaws.{refused_shape}
+use Rattle.lines.proofs.LineLaws.{refused_shape}
 use Rattle.lines.specs.declared.Shape.TheVariants as shape
 use Rattle.frames.specs.Replies.{refused_as, reply_by_shape, reply_to, reply_of, replied_of, answer_to, out_left}
 use Rattle.frames.specs.Calls.{Handled}

@@ -80,7 +80,6 @@ shape_of-part-then-i-part c =
 
 pub returns-then-i-part : goal.returns-then-i-part
 returns-then-i-part c =
-    
     let told = (done c.loop-rest.invariant _ c.clear_u64.ensures (inr c.if-i-part.true)) in
     record { value = told.0; part_after = told.1 }
 
@@ -102,6 +101,5 @@ shape_of-part c =
 
 pub returns : goal.returns
 returns c =
-    
     let told = (done c.loop-rest.invariant _ c.clear_u64.ensures (inl c.loop-rest-test.false)) in
     record { value = told.0; part_after = told.1 }

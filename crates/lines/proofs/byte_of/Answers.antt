@@ -1,7 +1,7 @@
 -- `byte_of` answers the field of one byte, which is below 256.
 use mathlib.Core.Path.{◌∙◌}
 use native.Mathlib.Omega.{arith}
-use Rattle.lines.specs.LineLaws.{field_below, field_fits}
+use Rattle.lines.proofs.LineLaws.{field_below, field_fits}
 use Rattle.lines.proofs.byte_of.Goals as goal
 
 pub overflow_cast-result : goal.overflow_cast-result

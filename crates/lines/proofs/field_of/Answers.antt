@@ -9,7 +9,7 @@ use lib.ListN.{length}
 use Rattle.lent.specs.Parts.{part_lent}
 use Rattle.digits.specs.Digits.{number_of}
 use Rattle.lines.specs.Lines.{field}
-use Rattle.lines.specs.LineLaws.{field_past, field_rest}
+use Rattle.lines.proofs.LineLaws.{field_past, field_rest}
 use Rattle.lines.proofs.field_of.Goals as goal
 
 -- The part that runs to the end of the line, and the part of 2 k characters.

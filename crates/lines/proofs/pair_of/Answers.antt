@@ -1,7 +1,7 @@
 -- `pair_of` answers the field of two bytes, which is below 65,536.
 use mathlib.Core.Path.{◌∙◌}
 use native.Mathlib.Omega.{arith}
-use Rattle.lines.specs.LineLaws.{field_below, field_fits}
+use Rattle.lines.proofs.LineLaws.{field_below, field_fits}
 use Rattle.lines.proofs.pair_of.Goals as goal
 
 pub overflow_cast-result : goal.overflow_cast-result

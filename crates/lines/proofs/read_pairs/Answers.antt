@@ -3,7 +3,7 @@ use mathlib.Core.Path.{◌≡◌, ◌∙◌, sym}
 use Prim.Native.Nat.{◌+◌, ◌*◌}
 use native.Mathlib.Omega.{arith}
 use borrow.Author.Rules.{rules}
-use Rattle.lines.specs.LineLaws.{field_pair}
+use Rattle.lines.proofs.LineLaws.{field_pair}
 use Rattle.lines.proofs.Fields.{no_field, more}
 use Rattle.lines.proofs.read_pairs.Goals as goal
 

@@ -5,7 +5,7 @@ use Prim.Native.Nat.{ℕ}
 use borrow.Author.Rules.{rules}
 use Rattle.lines.specs.Kinds.{Kind, count_line, best_line, at_line, record_line, word_line, next_line}
 use Rattle.lines.specs.Kinds.{run_line, tree_line, to_tree_line, row_of, kinds, kind_of}
-use Rattle.lines.specs.LineLaws.{kind_byte, Left, none_left}
+use Rattle.lines.proofs.LineLaws.{kind_byte, Left, none_left}
 use Rattle.lines.specs.Calls.{row_for}
 use Rattle.lines.specs.declared.Row.{Row as RowAnswer}
 use Rattle.lines.proofs.row_of.Goals as goal

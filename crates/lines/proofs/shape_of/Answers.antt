@@ -9,8 +9,8 @@ use lib.ListN.{length}
 use Rattle.digits.specs.Digits.{all_digits}
 use Rattle.lines.specs.Kinds.{Kind, kind_of}
 use Rattle.lines.specs.Lines.{field, bytes_in, unfit, fit, shape_of_kind, shape_of, shape_code, Proper}
-use Rattle.lines.specs.LineLaws.{byte_kind, row_small, bad_none, bad_odd, bad_long, unfit_length, unfit_character}
-use Rattle.lines.specs.LineLaws.{shape_kind, unfit_kind, unfit_kind_length, fit_kind_length}
+use Rattle.lines.proofs.LineLaws.{byte_kind, row_small, bad_none, bad_odd, bad_long, unfit_length, unfit_character}
+use Rattle.lines.proofs.LineLaws.{shape_kind, unfit_kind, unfit_kind_length, fit_kind_length}
 use Rattle.lines.specs.Calls.{row_for}
 use Rattle.lines.specs.declared.Row.{Row}
 use Rattle.lines.specs.declared.Shape.TheVariants as answer

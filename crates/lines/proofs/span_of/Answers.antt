@@ -7,7 +7,7 @@ use native.Mathlib.Omega.{arith}
 use lib.ListN.{length}
 use Rattle.lines.specs.Kinds.{Kind, row_of, kind_of}
 use Rattle.lines.specs.Lines.{field, fields, bytes_in, items_in, unread, read, items_of_kind, read_items}
-use Rattle.lines.specs.LineLaws.{items_little, items_kind, items_none, items_other, items_short, items_there}
+use Rattle.lines.proofs.LineLaws.{items_little, items_kind, items_none, items_other, items_short, items_there}
 use Rattle.lines.specs.Calls.{row_for, span_items, InLine}
 use Rattle.lines.specs.declared.Row.{Row}
 use Rattle.lines.proofs.CallLaws.{Known, no_kind, of_kind, known, row_low, row_bytes, row_items}

@@ -5,7 +5,7 @@ use mathlib.Core.List.{List}
 use Prim.Native.Nat.{ℕ, ◌≤◌}
 use native.Mathlib.Omega.{arith}
 use lib.ListN.{length}
-use Rattle.digits.specs.DigitLaws.{length_digits}
+use Rattle.digits.proofs.DigitLaws.{length_digits}
 use Rattle.frames.specs.Replies.{Reply, refused_as, served_with, digits_in, reply_to, reply_of, replied_of, answer_to}
 use Rattle.frames.specs.declared.Replied.{Replied}
 use Rattle.frames.specs.declared.Replied.TheVariants as replied

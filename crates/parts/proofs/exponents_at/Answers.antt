@@ -1,8 +1,8 @@
 -- `exponents_at` meets its contract: the test of OctaveLaws says of each number below 1344 that its part is the one found.
 use mathlib.Core.Path.{sym, ◌∙◌}
 use native.Mathlib.Omega.{arith}
-use Rattle.parts.specs.Largest.{exponents_at_lem, exponents_none}
-use Rattle.parts.specs.OctaveLaws.{part_found}
+use Rattle.parts.proofs.Largest.{exponents_at_lem, exponents_none}
+use Rattle.parts.proofs.OctaveLaws.{part_found}
 use Rattle.parts.proofs.exponents_at.Goals as goal
 
 pub returns-then-number-ge1344 : goal.returns-then-number-ge1344

@@ -12,7 +12,7 @@ use borrow.Author.Rules.{rules}
 use Rattle.chains.specs.Chains.{Part, value}
 use Rattle.chains.proofs.Divides.{value_pos}
 use Rattle.parts.specs.Parts.{limit}
-use Rattle.parts.specs.Tests.{below, at_below}
+use Rattle.parts.proofs.Tests.{below, at_below}
 use Rattle.chains.proofs.Bounds.{part_bounds}
 use Rattle.parts.proofs.exponents_of.Goals as goal
 

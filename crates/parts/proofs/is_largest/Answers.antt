@@ -1,7 +1,7 @@
 -- `is_largest` meets its contract: it tells a part by its number, which for a number of the table is as good as by its exponents.
 use mathlib.Core.Path.{refl}
 use Rattle.parts.specs.Parts.{same_part}
-use Rattle.parts.specs.Largest.{exponents_none, by_number}
+use Rattle.parts.proofs.Largest.{exponents_none, by_number}
 use Rattle.parts.proofs.is_largest.Goals as goal
 
 pub returns-then-first-ge1344 : goal.returns-then-first-ge1344

@@ -10,7 +10,7 @@ use Rattle.chains.specs.Chains.{Part, value}
 use Rattle.parts.specs.declared.Number.TheVariants.{At, None}
 use Rattle.parts.specs.Parts.{limit, number_of}
 use Rattle.chains.proofs.Bounds.{part_bounds}
-use Rattle.parts.specs.Numbers.{inside, rank, outside_over, inside_found, number_rank, number_none, number_at}
+use Rattle.parts.proofs.Numbers.{inside, rank, outside_over, inside_found, number_rank, number_none, number_at}
 use Rattle.parts.proofs.number_of.Goals as goal
 
 -- Past the bounds of a part.

@@ -8,7 +8,7 @@ use borrow.Author.Tests.{ltb-false}
 use Rattle.chains.specs.Chains.{Part, value}
 use Rattle.parts.specs.declared.Number.TheVariants.{At, None}
 use Rattle.parts.specs.Parts.{limit, part_number, number_of}
-use Rattle.parts.specs.Numbers.{number_over}
+use Rattle.parts.proofs.Numbers.{number_over}
 use Rattle.parts.proofs.part_number.Goals as goal
 
 -- Which of the two answers it was.

@@ -9,7 +9,7 @@ use borrow.Author.Tests.{ne_eqb}
 use lib.ListN.{length, get_or, drop, length-drop}
 use lib.Seq.{take-suc, get_or-drop}
 use Rattle.digits.specs.Digits.{every}
-use Rattle.digits.specs.DigitLaws.{every_append}
+use Rattle.digits.proofs.DigitLaws.{every_append}
 use Rattle.lines.specs.Stream.{unbroken}
 use Rattle.stream.specs.Pieces.{piece}
 use Rattle.stream.proofs.line_end.Goals as goal

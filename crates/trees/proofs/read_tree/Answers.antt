@@ -15,7 +15,7 @@ use Rattle.ranking.specs.declared.Found.TheVariants as found
 use Rattle.ranking.proofs.Answers.{little, refused_served}
 use Rattle.trees.specs.TreeOf.{path_from}
 use Rattle.trees.specs.Answers.{tree_judged, tree_as, of_tree}
-use Rattle.trees.specs.AnswerLaws.{judged_tree}
+use Rattle.trees.proofs.AnswerLaws.{judged_tree}
 use Rattle.trees.specs.Walk.{Readable}
 use Rattle.trees.proofs.PathLaws.{readable, outcome_path}
 use Rattle.trees.proofs.read_tree.Goals as goal

@@ -1,7 +1,7 @@
 -- The bench is zeroed, so that no name is saved; the chain is laid out in its first rows, and n put in its place.
 use mathlib.Core.Path.{ap, ◌∙◌}
 use lib.ListN.{length}
-use Rattle.bench.specs.Opening.{bench_rows, bench_laid, length_opened}
+use Rattle.bench.proofs.Opening.{bench_rows, bench_laid, length_opened}
 use Rattle.bench.proofs.laying.lay_bench.Goals as goal
 
 pub lay_out-requires : goal.lay_out-requires

@@ -4,7 +4,7 @@ use native.Mathlib.Omega.{arith}
 use mathlib.Core.Path.{ap, sym, ◌∙◌}
 use lib.ListN.{length}
 use Rattle.lent.specs.LentLaws.{length_zeros}
-use Rattle.bench.specs.Opening.{Stepped, stepped, none_laid, all_laid, laid_rows}
+use Rattle.bench.proofs.Opening.{Stepped, stepped, none_laid, all_laid, laid_rows}
 use Rattle.bench.proofs.laying.lay_out.Goals as goal
 
 pub loop-i-init : goal.loop-i-init

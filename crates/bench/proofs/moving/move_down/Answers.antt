@@ -2,7 +2,7 @@
 use mathlib.Core.Path.{refl, sym}
 use mathlib.Core.Bool.{true≢false}
 use native.Mathlib.Omega.{arith}
-use Rattle.bench.specs.MovedRows.{down_stuck, down_made}
+use Rattle.bench.proofs.MovedRows.{down_stuck, down_made}
 use Rattle.bench.proofs.moving.move_down.Goals as goal
 
 pub returns-then-s-eq0 : goal.returns-then-s-eq0

@@ -2,7 +2,7 @@
 use mathlib.Core.Path.{refl, sym}
 use mathlib.Core.Bool.{true≢false}
 use native.Mathlib.Omega.{arith}
-use Rattle.bench.specs.MovedRows.{up_stuck, up_made}
+use Rattle.bench.proofs.MovedRows.{up_stuck, up_made}
 use Rattle.bench.proofs.moving.move_up.Goals as goal
 
 pub returns-then-s-eq0 : goal.returns-then-s-eq0

@@ -1,6 +1,6 @@
 -- `plan_down` refuses where the two rows allow no move down or another kind, and where a row above is in its way; nothing else can be.
 use Rattle.moves.proofs.PlanLaws.{down_outside, fell_none, fell_other, fell_blocked, fell}
-use Rattle.bench.specs.PlanLoops.{above_fits, past_asked, past_power}
+use Rattle.bench.proofs.PlanLoops.{above_fits, past_asked, past_power}
 use Rattle.bench.proofs.moving.plan_down.Goals as goal
 
 pub returns-then-b-ge40 : goal.returns-then-b-ge40

@@ -1,6 +1,6 @@
 -- `plan_up` refuses where the row allows no move up or another kind, and where a row below is in its way; nothing else can be.
 use Rattle.moves.proofs.PlanLaws.{up_outside}
-use Rattle.bench.specs.PlanLoops.{rose_none, rose_other, rose_pos, rose_blocked, rose}
+use Rattle.bench.proofs.PlanLoops.{rose_none, rose_other, rose_pos, rose_blocked, rose}
 use Rattle.bench.proofs.moving.plan_up.Goals as goal
 
 pub returns-then-b-ge40 : goal.returns-then-b-ge40

@@ -1,7 +1,7 @@
 -- `raise` makes both new numbers from the old ones: row b + 1 is read before row b is written.
 use native.Mathlib.Omega.{arith}
 use lib.ListN.{length-set}
-use Rattle.bench.specs.PlanLoops.{raised_writes}
+use Rattle.bench.proofs.PlanLoops.{raised_writes}
 use Rattle.bench.proofs.moving.raise.Goals as goal
 
 pub bounds-rows-b-4 : goal.bounds-rows-b-4

@@ -5,8 +5,8 @@ use mathlib.Core.Bool.{true≢false}
 use native.Mathlib.Omega.{arith}
 use lib.ListN.{length}
 use borrow.Author.Tests.{eqb-true, eqb-false}
-use Rattle.bench.specs.ChainTest.{none_looked, empty_looked, row_looked}
-use Rattle.bench.specs.ChainTest.{third_refused, wide_refused, sum_refused, chain_yes, chain_no}
+use Rattle.bench.proofs.ChainTest.{none_looked, empty_looked, row_looked}
+use Rattle.bench.proofs.ChainTest.{third_refused, wide_refused, sum_refused, chain_yes, chain_no}
 use Rattle.bench.proofs.rows.is_chain.Goals as goal
 
 pub loop-i-init : goal.loop-i-init

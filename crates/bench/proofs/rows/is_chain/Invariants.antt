@@ -2,7 +2,7 @@
 -- not fit below these refuses every chain of n.
 use Prim.Native.Nat.{◌≤◌}
 use lib.ListN.{length, drop}
-use Rattle.bench.specs.ChainTest.{Looked}
+use Rattle.bench.proofs.ChainTest.{Looked}
 use Rattle.bench.proofs.rows.is_chain.Given as goal
 
 abbrev pub invariant-loop-i : goal.invariant-loop-i

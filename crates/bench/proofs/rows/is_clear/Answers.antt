@@ -7,7 +7,7 @@ use native.Mathlib.Decide.{dec_lt}
 use native.Mathlib.Omega.{arith}
 use lib.ListN.{get_or}
 use Rattle.moves.specs.Changes.{Clear}
-use Rattle.bench.specs.PlanLoops.{power_pos, mask}
+use Rattle.bench.proofs.PlanLoops.{power_pos, mask}
 use Rattle.bench.proofs.rows.is_clear.Goals as goal
 
 one_more :

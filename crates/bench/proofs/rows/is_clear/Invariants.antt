@@ -2,7 +2,7 @@
 use mathlib.Core.Path.{◌≡◌}
 use Prim.Native.Nat.{ℕ, ◌≤◌, ◌<◌, ◌-◌, ◌%◌}
 use lib.ListN.{length, get_or}
-use Rattle.bench.specs.PlanLoops.{Power}
+use Rattle.bench.proofs.PlanLoops.{Power}
 use Rattle.bench.proofs.rows.is_clear.Given as goal
 
 abbrev pub invariant-loop-i : goal.invariant-loop-i

@@ -1,6 +1,6 @@
 -- `copy_over` copies one number a turn: the first i numbers are those of `from`, and in the end all are.
 use native.Mathlib.Omega.{arith}
-use Rattle.bench.specs.StateLaws.{none_copied, one_copied, all_copied}
+use Rattle.bench.proofs.StateLaws.{none_copied, one_copied, all_copied}
 use Rattle.bench.proofs.states.copy_over.Goals as goal
 
 pub loop-i-init : goal.loop-i-init

@@ -4,7 +4,7 @@ use mathlib.Core.List.{List}
 use Prim.Native.Nat.{ℕ, ◌+◌, ◌-◌, ◌*◌}
 use borrow.Rule.Slice.PartMut.{put_mid}
 use Rattle.bench.specs.Sound.{state_at}
-use Rattle.bench.specs.StateLaws.{state_lent, state_put}
+use Rattle.bench.proofs.StateLaws.{state_lent, state_put}
 use Rattle.bench.proofs.states.copy_state.Goals as goal
 
 pub returns : goal.returns

@@ -5,7 +5,7 @@ use Prim.Native.Nat.{suc, ◌+◌, ◌*◌}
 use native.Mathlib.Omega.{arith}
 use borrow.Author.Tests.{not-true, not-false}
 use Rattle.bench.specs.Sound.{saved_in}
-use Rattle.bench.specs.StateLaws.{state_lent}
+use Rattle.bench.proofs.StateLaws.{state_lent}
 use Rattle.bench.proofs.states.is_lost.Goals as goal
 
 pub returns-then-bench-name-eq0 : goal.returns-then-bench-name-eq0

@@ -2,7 +2,7 @@
 use mathlib.Core.Path.{sym}
 use mathlib.Core.Bool.{true≢false}
 use native.Mathlib.Omega.{arith}
-use Rattle.bench.specs.StateLaws.{none_saved, one_saved, all_sound, present_unsound, saved_unsound}
+use Rattle.bench.proofs.StateLaws.{none_saved, one_saved, all_sound, present_unsound, saved_unsound}
 use Rattle.bench.proofs.states.is_sound.Goals as goal
 
 pub returns-then-not-is_chain : goal.returns-then-not-is_chain

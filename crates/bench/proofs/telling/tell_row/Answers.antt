@@ -4,7 +4,7 @@ use Prim.Native.Nat.{◌<◌}
 use native.Mathlib.Omega.{arith}
 use mathlib.Core.Path.{ap}
 use lib.ListN.{length}
-use Rattle.bench.specs.TellingLaws.{storing_none, storing_room, store_one, all_stored, Highest, highest, row_stored}
+use Rattle.bench.proofs.TellingLaws.{storing_none, storing_room, store_one, all_stored, Highest, highest, row_stored}
 use Rattle.bench.proofs.telling.tell_row.Goals as goal
 
 pub loop-left-init : goal.loop-left-init

@@ -2,7 +2,7 @@
 -- which is the largest part's.
 use Prim.Native.Nat.{◌≤◌}
 use Rattle.bench.specs.Telling.{row_numbers}
-use Rattle.bench.specs.TellingLaws.{Storing}
+use Rattle.bench.proofs.TellingLaws.{Storing}
 use Rattle.bench.proofs.telling.tell_row.Given as goal
 
 abbrev pub invariant-loop-left : goal.invariant-loop-left

@@ -1,8 +1,8 @@
 -- The numbers stored and then those of the parts of the rows below b are those of the chain, and a turn stores those of the next row
 -- down.
 use native.Mathlib.Omega.{arith}
-use Rattle.bench.specs.TellingLaws.{storing_none, all_stored, row_room, store_row, no_row}
-use Rattle.bench.specs.TellingLaws.{tellable_room, told_rows}
+use Rattle.bench.proofs.TellingLaws.{storing_none, all_stored, row_room, store_row, no_row}
+use Rattle.bench.proofs.TellingLaws.{tellable_room, told_rows}
 use Rattle.bench.proofs.telling.tell_rows.Goals as goal
 
 pub loop-b-init : goal.loop-b-init

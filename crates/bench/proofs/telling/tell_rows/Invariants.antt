@@ -1,7 +1,7 @@
 -- The numbers stored and then those of the parts of the rows below b are those of the chain, and a turn stores those of the next row
 -- down.
 use Prim.Native.Nat.{◌≤◌}
-use Rattle.bench.specs.TellingLaws.{numbers_below, Storing}
+use Rattle.bench.proofs.TellingLaws.{numbers_below, Storing}
 use Rattle.bench.proofs.telling.tell_rows.Given as goal
 
 abbrev pub invariant-loop-b : goal.invariant-loop-b

@@ -2,7 +2,7 @@
 use mathlib.Core.Path.{◌∙◌}
 use native.Mathlib.Omega.{arith}
 use Rattle.chains.proofs.Divides.{same_part_lem}
-use Rattle.lines.specs.LineLaws.{field_fits}
+use Rattle.lines.proofs.LineLaws.{field_fits}
 use Rattle.frames.specs.Replies.{exponents_from}
 use Rattle.frames.proofs.serve.exponents_in.Goals as goal
 

@@ -6,7 +6,7 @@ use native.Mathlib.Omega.{arith}
 use lib.ListN.{length}
 use Rattle.lines.specs.Kinds.{row_of, best_line}
 use Rattle.lines.specs.Lines.{field, bytes_in, Fit}
-use Rattle.lines.specs.LineLaws.{field_split, field_below}
+use Rattle.lines.proofs.LineLaws.{field_split, field_below}
 use Rattle.frames.specs.Replies.{limits_in}
 use Rattle.frames.proofs.serve.limits_in.Goals as goal
 

@@ -8,11 +8,11 @@ use native.Mathlib.Omega.{arith}
 use Rattle.chains.specs.Chains.{Part}
 use Rattle.parts.specs.Parts.{largest_of, same_part}
 use Rattle.running.specs.Ran.{ran_of}
-use Rattle.running.specs.RanLaws.{run_refusals}
+use Rattle.running.proofs.RanLaws.{run_refusals}
 use Rattle.running.specs.declared.Ran.{Ran}
 use Rattle.running.specs.declared.Ran.TheVariants as ran
 use Rattle.lines.specs.Kinds.{run_line, row_of}
-use Rattle.lines.specs.LineLaws.{field_fits}
+use Rattle.lines.proofs.LineLaws.{field_fits}
 use Rattle.frames.specs.Replies.{refused_as, ran_reply, modulus_in, residue_in, exponents_from, exponents_in, or_sixteen}
 use Rattle.frames.specs.ServedLaws.{sixteen_right, sixteen_wrong, sixteen_refused}
 use Rattle.frames.proofs.serve.run_numbers.Goals as goal

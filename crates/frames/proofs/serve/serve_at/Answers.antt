@@ -1,7 +1,7 @@
 -- `serve_at` replies with the chain at the position that the line asks for.
 use mathlib.Core.Path.{refl, ◌∙◌}
 use native.Mathlib.Omega.{arith}
-use Rattle.lines.specs.LineLaws.{field_fits}
+use Rattle.lines.proofs.LineLaws.{field_fits}
 use Rattle.frames.specs.Replies.{served}
 use Rattle.frames.proofs.CallLaws.{found_fits, found_handled}
 use Rattle.frames.proofs.serve.serve_at.Goals as goal

@@ -11,7 +11,7 @@ use Rattle.ranking.specs.Services.{Outcome, refused, gives, lent, places_left}
 use Rattle.best.specs.Chosen.{best_outcome, best_of}
 use Rattle.best.specs.declared.Best.{Best}
 use Rattle.best.specs.declared.Best.TheVariants as best
-use Rattle.lines.specs.LineLaws.{field_fits}
+use Rattle.lines.proofs.LineLaws.{field_fits}
 use Rattle.frames.specs.ReplyDigits.{priced_digits}
 use Rattle.frames.specs.Replies.{refused_as, served_with, priced_reply, served}
 use Rattle.frames.specs.ServedLaws.{best_number}

@@ -13,7 +13,7 @@ use Rattle.counting.specs.declared.Counted.{Counted}
 use Rattle.counting.specs.declared.Counted.TheVariants as counted
 use Rattle.lines.specs.Kinds.{count_line}
 use Rattle.lines.specs.Lines.{field}
-use Rattle.lines.specs.LineLaws.{field_fits}
+use Rattle.lines.proofs.LineLaws.{field_fits}
 use Rattle.frames.specs.ReplyDigits.{single_digits}
 use Rattle.frames.specs.Replies.{served_with, served}
 use Rattle.frames.specs.Calls.{Told, Handled}

@@ -6,7 +6,7 @@ use borrow.Author.Rules.{rules}
 use Rattle.lines.specs.Kinds.{Kind, count_line, best_line, at_line, record_line, word_line, next_line, run_line}
 use Rattle.lines.specs.Kinds.{tree_line, to_tree_line, row_of, kinds}
 use Rattle.lines.specs.Lines.{fit, shape_of, Fit}
-use Rattle.lines.specs.LineLaws.{fit_line, kind_byte, kind_shape, Left, none_left_fit}
+use Rattle.lines.proofs.LineLaws.{fit_line, kind_byte, kind_shape, Left, none_left_fit}
 use Rattle.frames.specs.Replies.{reply_to, served}
 use Rattle.frames.specs.ReplyLaws.{reply_fit}
 use Rattle.frames.specs.Calls.{Handled, FitAs}

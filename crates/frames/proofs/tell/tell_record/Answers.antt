@@ -1,7 +1,7 @@
 -- `tell_record` tells the chain where the exponents are those of its largest part, else 16.
 use mathlib.Core.Path.{sym, ◌∙◌}
 use native.Mathlib.Omega.{arith}
-use Rattle.parts.specs.Largest.{same_part_lem}
+use Rattle.parts.proofs.Largest.{same_part_lem}
 use Rattle.frames.specs.ServedLaws.{sixteen_right, sixteen_wrong}
 use Rattle.frames.proofs.tell.tell_record.Goals as goal
 

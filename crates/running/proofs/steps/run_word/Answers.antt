@@ -4,7 +4,7 @@ use Rattle.std.proofs.Common.{◌≡◌, ℕ, suc, ◌+◌, ◌-◌, ◌*◌, �
 use native.Mathlib.Nat.{sub_self, sub-zero, pow-zero, div-div-eq-div-mul}
 use Rattle.words.specs.Packed.{unpacked}
 use Rattle.running.specs.Run.{run}
-use Rattle.running.specs.RunLaws.{run_letter}
+use Rattle.running.proofs.RunLaws.{run_letter}
 use Rattle.running.proofs.steps.run_word.Invariants.{from}
 use Rattle.running.proofs.steps.run_word.Goals as goal
 

@@ -14,7 +14,7 @@ use Rattle.words.specs.declared.Weighed.{Weighed}
 use Rattle.words.specs.declared.Weighed.TheVariants.{Number, Over}
 use Rattle.words.proofs.Sized.{sized_over, number_is, over_is}
 use Rattle.trees.specs.Trees.{number}
-use Rattle.trees.specs.TreeLaws.{number_later}
+use Rattle.trees.proofs.TreeLaws.{number_later}
 use Rattle.trees.proofs.numbers.weigh.Goals as goal
 
 none_read : (l : Word) → Number 1 ≡ sized (number (drop (length l) l))

@@ -12,9 +12,9 @@ use lib.Seq.{drop-cons, take-set-le, take-suc-set, append_snoc}
 use Rattle.chains.specs.Words.{Word, some_left}
 use Rattle.trees.specs.Trees.{produced}
 use Rattle.trees.specs.TreeOf.{number_after, path_from}
-use Rattle.trees.specs.Letters.{rising, first_letter, rising_low, letter_range}
-use Rattle.trees.specs.Owed.{Owed, none, Onward, one, two, three, onward, owed_few}
-use Rattle.trees.specs.Paths.{path_some, falls_at}
+use Rattle.trees.proofs.Letters.{rising, first_letter, rising_low, letter_range}
+use Rattle.trees.proofs.Owed.{Owed, none, Onward, one, two, three, onward, owed_few}
+use Rattle.trees.proofs.WalkedPaths.{path_some, falls_at}
 use Rattle.trees.specs.Walk.{Readable}
 use Rattle.trees.proofs.paths.write_path.Invariants.{Walk}
 use Rattle.trees.proofs.paths.write_path.Goals as goal

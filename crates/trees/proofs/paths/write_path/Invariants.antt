@@ -8,8 +8,8 @@ use lib.ListN.{length, take, drop}
 use Rattle.chains.specs.Words.{Word}
 use Rattle.trees.specs.Trees.{produced}
 use Rattle.trees.specs.TreeOf.{path_from}
-use Rattle.trees.specs.Letters.{rising}
-use Rattle.trees.specs.Owed.{Owed}
+use Rattle.trees.proofs.Letters.{rising}
+use Rattle.trees.proofs.Owed.{Owed}
 use Rattle.trees.proofs.paths.write_path.Given as goal
 
 -- w is the whole word, v what is left of it.

@@ -3,7 +3,7 @@ use mathlib.Core.Path.{◌≡◌, refl}
 use Prim.Native.Nat.{ℕ, ◌≤◌}
 use native.Mathlib.Omega.{arith}
 use Rattle.trees.specs.TreeOf.{letter_at}
-use Rattle.trees.specs.Letters.{letter_range}
+use Rattle.trees.proofs.Letters.{letter_range}
 use Rattle.trees.proofs.Remainders.{five}
 use Rattle.trees.proofs.writing.letter_at.Goals as goal
 

@@ -7,7 +7,7 @@ use lib.ListN.{length, get_or}
 use Rattle.chains.proofs.Divides.{same_part_lem}
 use Rattle.parts.specs.Parts.{part_at}
 use Rattle.parts.specs.Codes.{codes}
-use Rattle.parts.specs.CodeLaws.{codes_count, part_bounded, code_a, code_b}
+use Rattle.parts.proofs.CodeLaws.{codes_count, part_bounded, code_a, code_b}
 use Rattle.words.proofs.entries.part_of.Goals as goal
 
 module _ (t : List ℕ) (e : t ≡ codes) where

@@ -8,7 +8,7 @@ use lib.ListN.{length, get_or}
 use Rattle.chains.specs.Chains.{Part, value}
 use Rattle.chains.proofs.Bounds.{part_bounds}
 use Rattle.parts.specs.Codes.{powers}
-use Rattle.parts.specs.CodeLaws.{powers_count, power_at}
+use Rattle.parts.proofs.CodeLaws.{powers_count, power_at}
 use Rattle.words.proofs.entries.value_at.Goals as goal
 
 shifted : (p : Part) → value p < 2 ^ 64 → (t : List ℕ) → t ≡ powers → get_or t p.b 0 * 2 ^ p.a % 2 ^ 64 ≡ value p

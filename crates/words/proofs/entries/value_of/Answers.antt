@@ -4,7 +4,7 @@ use Prim.Native.Nat.{ℕ, ◌^◌, ◌<◌}
 use native.Mathlib.Omega.{arith}
 use Rattle.chains.specs.Chains.{Part, value}
 use Rattle.parts.specs.Parts.{part_at}
-use Rattle.parts.specs.Numbers.{part_value, part_below}
+use Rattle.parts.proofs.Numbers.{part_value, part_below}
 use Rattle.words.proofs.entries.value_of.Goals as goal
 
 low : (i : ℕ) → i < 1344 → (p : Part) → p ≡ part_at i → value p < 2 ^ 64

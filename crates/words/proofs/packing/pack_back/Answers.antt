@@ -20,8 +20,8 @@ use Rattle.chains.specs.Divides.{Above}
 use Rattle.chains.proofs.Divides.{value_pos, same_part_lem, multiple_above}
 use Rattle.chains.specs.Words.{origin, path, marked, walk, word_of}
 use Rattle.parts.specs.Parts.{part_at}
-use Rattle.parts.specs.Numbers.{parts_ascend, part_value, part_below}
-use Rattle.parts.specs.CodeLaws.{part_bounded}
+use Rattle.parts.proofs.Numbers.{parts_ascend, part_value, part_below}
+use Rattle.parts.proofs.CodeLaws.{part_bounded}
 use Rattle.words.specs.Records.{record_parts, beyond, Burned}
 use Rattle.words.specs.RecordLaws.{in_table, number_known, judged_sum}
 use Rattle.words.specs.Walks.{place, NoSum, Begun, steps, rises_from, marks_from, Joins}

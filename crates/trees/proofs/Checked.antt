@@ -7,7 +7,7 @@ use Rattle.chains.specs.Words.{Word, right, up, path, marked, walk, word_of, cha
 use Rattle.chains.specs.Listing.{by_third, at_rest, words_in, words_at, list_of}
 use Rattle.trees.specs.Trees.{line, produced}
 use Rattle.trees.specs.TreeOf.{letter_at, number_after, up_next, letters_in, tree_of}
-use Rattle.trees.specs.TreeLaws.{trees_of, tree_words}
+use Rattle.trees.proofs.TreeLaws.{trees_of, tree_words}
 
 -- The number 1 has the empty word alone.
 pub words_of_1 : (t : Word) → T (produced t 1) ↔ (t ≡ [])

@@ -13,7 +13,7 @@ use Rattle.moves.proofs.WalkLaws.{walk_rows, walk_keeps, walk_bound, walk_ones}
 use Rattle.bench.specs.declared.Walked.TheVariants as walked
 use Rattle.bench.specs.Sound.{number_in, state_at, Sound}
 use Rattle.bench.specs.Benches.{with_state, refused, leaves, move_outcome, walked_of, walk_left}
-use Rattle.bench.specs.BenchLaws.{row_of_lem, move_done, move_stuck, walk_told, walk_left_lem}
+use Rattle.bench.proofs.BenchLaws.{row_of_lem, move_done, move_stuck, walk_told, walk_left_lem}
 
 module _ (bench : List ℕ) (h : 378 ≤ length bench) (s : Sound bench) where
   -- The present chain.

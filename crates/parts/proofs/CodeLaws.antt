@@ -5,7 +5,7 @@ use Rattle.std.proofs.lemmas.List.{length-map}
 use Rattle.chains.proofs.Bounds.{part_bounds}
 use Rattle.parts.specs.Table.{parts}
 use Rattle.parts.specs.Parts.{part_at}
-use Rattle.parts.specs.Numbers.{parts_count, part_value, part_below}
+use Rattle.parts.proofs.Numbers.{parts_count, part_value, part_below}
 use Rattle.parts.specs.Codes.{code_of, codes, tripling, powers}
 
 get_d_map : (f : ℕ → ℕ) (xs : List ℕ) (i : ℕ) → i < length xs → get_or (map f xs) i 0 ≡ f (get_or xs i 0)

@@ -10,11 +10,11 @@ use Rattle.std.proofs.Math.Option.{Option, none, some}
 use Prim.Native.Nat.{ℕ, zero, suc, ◌+◌, ◌-◌, ◌*◌}
 use Rattle.std.proofs.lemmas.List.{length-map}
 use Rattle.digits.specs.Digits.{capital, capitals}
-use Rattle.digits.specs.CapitalLaws.{by_capital, digits_of_capitals, number_of_capitals}
+use Rattle.digits.proofs.CapitalLaws.{by_capital, digits_of_capitals, number_of_capitals}
 use Rattle.lines.specs.Kinds.{Kind, row_of, kind_of}
 use Rattle.lines.specs.Lines.{field, fields, count_in, bytes_in, items_in, shape_of_kind, shape_of, items_of_kind, read_items}
 use Rattle.lines.specs.Stream.{finished, unfinished, last_line, lines_of, replies_to}
-use Rattle.lines.specs.StreamLaws.{finished_map, unfinished_map, last_map, lines_map}
+use Rattle.lines.proofs.StreamLaws.{finished_map, unfinished_map, last_map, lines_map}
 
 -- ---- a part of a text
 

@@ -13,9 +13,9 @@ use Rattle.chains.proofs.Marks.{part_left}
 use Rattle.chains.proofs.RoundTrip.{second_first}
 use Rattle.trees.specs.Trees.{produced, those, lowest, binary_in, binary, adding, read_back}
 use Rattle.trees.specs.TreeOf.{letter_at, number_after, up_next, letters_in, path_from}
-use Rattle.trees.specs.Letters.{rising, Letter, only_one, first_letter, rising_low, with_letter}
-use Rattle.trees.specs.Owed.{Owed, none, Onward, one, two, three, onward, owed_at_one}
-use Rattle.trees.specs.BackLaws.{chain_right, chain_up, adding_more, adding_right, adding_up, adding_none}
+use Rattle.trees.proofs.Letters.{rising, Letter, only_one, first_letter, rising_low, with_letter}
+use Rattle.trees.proofs.Owed.{Owed, none, Onward, one, two, three, onward, owed_at_one}
+use Rattle.trees.proofs.BackLaws.{chain_right, chain_up, adding_more, adding_right, adding_up, adding_none}
 
 -- ---- a path word by its first letter
 

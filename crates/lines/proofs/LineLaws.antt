@@ -13,7 +13,7 @@ use Rattle.std.proofs.Math.ListN.{length}
 use Rattle.std.proofs.Math.Seq.{take-nil, drop-cons}
 use Rattle.lent.specs.LentLaws.{neither}
 use Rattle.digits.specs.Digits.{value_or0, all_digits, number_of, read_from}
-use Rattle.digits.specs.DigitLaws.{number_append, number_below, number_fits}
+use Rattle.digits.proofs.DigitLaws.{number_append, number_below, number_fits}
 use Rattle.lines.specs.Kinds.{Kind, count_line, best_line, at_line, record_line, word_line, next_line, run_line}
 use Rattle.lines.specs.Kinds.{tree_line, to_tree_line, Row, row_of, kinds, kind_among, kind_of}
 use Rattle.lines.specs.Lines.{field, fields, bytes_in, items_in, Shape, unfit, fit, bad_length, Proper, shape_of_kind, shape_of}

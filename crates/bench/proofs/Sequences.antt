@@ -14,9 +14,9 @@ use Rattle.moves.proofs.WalkLaws.{the_walk, walk_keeps}
 use Rattle.bench.specs.Sound.{number_in, state_at, saved_in, Sound}
 use Rattle.bench.specs.Benches.{with_saved, opened, bench_left, refused, move_outcome, save_outcome, back_outcome, walk_left}
 use Rattle.bench.specs.Benches.{walk_of}
-use Rattle.bench.specs.BenchLaws.{on_each, decided_each, save_done, save_refused, back_done, back_never, back_refused}
-use Rattle.bench.specs.Kept.{changed, length_present, Kept, kept_none, kept_present, saved_under, opened_is, opened_sound}
-use Rattle.bench.specs.Opening.{length_opened}
+use Rattle.bench.proofs.BenchLaws.{on_each, decided_each, save_done, save_refused, back_done, back_never, back_refused}
+use Rattle.bench.proofs.Kept.{changed, length_present, Kept, kept_none, kept_present, saved_under, opened_is, opened_sound}
+use Rattle.bench.proofs.Opening.{length_opened}
 
 -- ---- calls
 

@@ -9,7 +9,7 @@ use Rattle.std.proofs.lemmas.Bool.{false≢true}
 use Rattle.std.proofs.Math.Option.{Option, some, get_or}
 use Rattle.digits.specs.Digits.{within, digit_value, is_some, is_digit, value_or0, digit_of, is_written, every, all_digits, read_from}
 use Rattle.digits.specs.Digits.{number_of, capital, capitals}
-use Rattle.digits.specs.DigitLaws.{inside, ends, outside, value_capital, value_small, by_range, digit_decimal, digit_capital}
+use Rattle.digits.proofs.DigitLaws.{inside, ends, outside, value_capital, value_small, by_range, digit_decimal, digit_capital}
 
 -- ---- one character
 

@@ -18,7 +18,7 @@ use Rattle.words.specs.declared.Judged.{Judged}
 use Rattle.words.specs.declared.Judged.TheVariants as judged
 use Rattle.running.specs.Run.{chain_run}
 use Rattle.running.specs.Ran.{bad_modulus, run_judged, ran_of}
-use Rattle.running.specs.RunLaws.{run_is_product}
+use Rattle.running.proofs.RunLaws.{run_is_product}
 use Rattle.running.specs.declared.Ran.{Ran}
 use Rattle.running.specs.declared.Ran.TheVariants.{Residue, Refused}
 

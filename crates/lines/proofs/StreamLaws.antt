@@ -12,7 +12,7 @@ use mathlib.Core.List.{List, [], ◌∷◌, ◌++◌, append-nil, append_assoc, 
 use Rattle.std.proofs.Math.ListN.{take}
 use Rattle.std.proofs.Math.Seq.{append_snoc, take-nil}
 use Rattle.digits.specs.Digits.{within, is_written, every}
-use Rattle.digits.specs.DigitLaws.{every_weaker}
+use Rattle.digits.proofs.DigitLaws.{every_weaker}
 use Rattle.lines.specs.Stream.{finished, unfinished, last_line, lines_from, lines_of, replies_to, unbroken, answers_to}
 
 -- ---- one character more

@@ -15,8 +15,8 @@ use Rattle.moves.proofs.BitLaws.{shl_one}
 use Rattle.moves.specs.Rows.{add_at, rows_of, Rows, zeros as no_rows}
 use Rattle.moves.proofs.Layouts.{add_least, laid_out, length_rows}
 use Rattle.moves.proofs.Chaining.{chained_rest}
-use Rattle.parts.specs.Largest.{exponents_at_lem}
-use Rattle.parts.specs.Numbers.{part_value, part_below}
+use Rattle.parts.proofs.Largest.{exponents_at_lem}
+use Rattle.parts.proofs.Numbers.{part_value, part_below}
 use Rattle.parts.specs.Parts.{part_at, exponents_at}
 use Rattle.words.specs.Records.{Burned, InTable, record_parts}
 use Rattle.bench.specs.Benches.{opened}

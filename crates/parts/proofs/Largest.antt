@@ -9,8 +9,8 @@ use Rattle.std.proofs.Math.Decide.{dec_lt}
 use Rattle.chains.specs.Chains.{Part, value, ProperMultiple, Chained, total}
 use Rattle.chains.proofs.Divides as divides
 use Rattle.parts.specs.Parts.{limit, part_at, exponents_at, largest_part, largest_of, same_part, part_number}
-use Rattle.parts.specs.Numbers.{parts_complete, number_over, number_of_part, part_of_number}
-use Rattle.parts.specs.CodeLaws.{part_bounded}
+use Rattle.parts.proofs.Numbers.{parts_complete, number_over, number_of_part, part_of_number}
+use Rattle.parts.proofs.CodeLaws.{part_bounded}
 
 -- ---- the exponents of a number
 

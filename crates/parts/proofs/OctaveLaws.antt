@@ -8,8 +8,8 @@ use Rattle.chains.specs.Chains.{Part, value}
 use Rattle.chains.proofs.Divides.{value_unique}
 use Rattle.parts.specs.Table.{rows, parts}
 use Rattle.parts.specs.Parts.{part_at}
-use Rattle.parts.specs.Tests.{below, at_below, look, look_joined}
-use Rattle.parts.specs.Numbers.{parts_in_32s, part_value}
+use Rattle.parts.proofs.Tests.{below, at_below, look, look_joined}
+use Rattle.parts.proofs.Numbers.{parts_in_32s, part_value}
 use Rattle.parts.specs.Octaves.{parts_below, later_of, last_of, last_from, octave_at, InOctave}
 use Rattle.parts.specs.Octaves.{next_group, in_group, in_groups, triplings_at}
 

@@ -12,8 +12,8 @@ use Rattle.chains.proofs.Bounds.{part_bounds}
 use Rattle.parts.specs.Table.{rows, joined, parts}
 use Rattle.parts.specs.Parts.{limit, times, part_at, part_number, number_of}
 use Rattle.parts.specs.declared.Number.TheVariants.{At, None}
-use Rattle.parts.specs.Tests.{each, at_each, below, at_below, ascending, ascending_pair, smaller_at, all_smaller}
-use Rattle.parts.specs.Tests.{in_32s, look, look_joined}
+use Rattle.parts.proofs.Tests.{each, at_each, below, at_below, ascending, ascending_pair, smaller_at, all_smaller}
+use Rattle.parts.proofs.Tests.{in_32s, look, look_joined}
 
 -- ---- the tests
 

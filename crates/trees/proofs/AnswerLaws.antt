@@ -31,8 +31,8 @@ use Rattle.ranking.specs.Refusals.{record_refusals, Little, found_too_little}
 use Rattle.ranking.specs.declared.Found.TheVariants as found
 use Rattle.trees.specs.Trees.{produced, number, read_back}
 use Rattle.trees.specs.TreeOf.{tree_of}
-use Rattle.trees.specs.TreeLaws.{tree_number, tree_chain, tree_positive, tree_chain_tree, produced_short, chain_tree, chain_tree_chain}
-use Rattle.trees.specs.TreeLaws.{tree_letters}
+use Rattle.trees.proofs.TreeLaws.{tree_number, tree_chain, tree_positive, tree_chain_tree, produced_short, chain_tree, chain_tree_chain}
+use Rattle.trees.proofs.TreeLaws.{tree_letters}
 use Rattle.trees.specs.Answers.{foreign, tree_judged, tree_as, of_tree, TreeWord, no_tree, tree_word, tree_by, record_tree}
 use Rattle.trees.specs.Answers.{lent_tree, tree_told}
 

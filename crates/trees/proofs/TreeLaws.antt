@@ -15,10 +15,10 @@ use Rattle.chains.proofs.Bounds.{weight_word_of, letters_bound}
 use Rattle.chains.proofs.Listed.{list_of_chains, chain_listed}
 use Rattle.trees.specs.Trees.{produced, number, read_back}
 use Rattle.trees.specs.TreeOf.{number_after, letters_in, tree_of, path_from}
-use Rattle.trees.specs.Letters.{rising, Letter, only_one, first_letter, rising_low, letter_range}
-use Rattle.trees.specs.Owed.{none, Onward, one, two, three, onward}
-use Rattle.trees.specs.BackLaws.{adding_none}
-use Rattle.trees.specs.Paths.{Walked, walked, Lettered, lettered, same_word}
+use Rattle.trees.proofs.Letters.{rising, Letter, only_one, first_letter, rising_low, letter_range}
+use Rattle.trees.proofs.Owed.{none, Onward, one, two, three, onward}
+use Rattle.trees.proofs.BackLaws.{adding_none}
+use Rattle.trees.proofs.WalkedPaths.{Walked, walked, Lettered, lettered, same_word}
 
 -- ---- the number of a word
 

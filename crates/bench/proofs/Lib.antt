@@ -1,0 +1,10 @@
+pub mod Promises
+pub mod Sequences
+pub mod Kept
+pub mod BenchLaws
+pub mod StateLaws
+pub mod ChainTest
+pub mod PlanLoops
+pub mod MovedRows
+pub mod Opening
+pub mod TellingLaws
