@@ -1,8 +1,5 @@
 -- The invariant that both loops over lent memory share: it is as long as it was, and at most 515 characters are kept.
-use mathlib.Core.Path.{◌≡◌}
-use mathlib.Core.List.{List}
-use Prim.Native.Nat.{ℕ, ◌≤◌}
-use lib.ListN.{length}
+use Rattle.std.proofs.Common.{◌≡◌, List, ℕ, ◌≤◌, length}
 
 pub record Lent (kept_entry scratch_entry out_entry kept scratch out : List ℕ) (k : ℕ) : Type 0 where
   pub most : k ≤ 515

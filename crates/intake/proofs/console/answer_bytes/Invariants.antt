@@ -1,0 +1,14 @@
+-- `answer_bytes` goes on with what each call kept. The measure is what is left of the block.
+use Rattle.std.proofs.Common.{◌-◌, ◌≤◌, length, take}
+use Rattle.lines.specs.Stream.{unfinished}
+use Rattle.intake.specs.Console.{Holds}
+use Rattle.intake.proofs.Lent.{Lent}
+use Rattle.intake.proofs.console.answer_bytes.Given as goal
+
+abbrev pub invariant-loop-at : goal.invariant-loop-at
+invariant-loop-at l =
+    (l.at ≤ length l.block) × Lent l.initial.kept l.initial.scratch l.initial.out l.kept l.scratch l.out l.left
+    × Holds (unfinished (take l.k l.initial.kept) (take l.at l.block)) l.kept l.left
+
+abbrev pub decreases-loop-at : goal.decreases-loop-at
+decreases-loop-at l = length l.block - l.at
