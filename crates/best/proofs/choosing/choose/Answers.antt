@@ -36,7 +36,7 @@ returns-then-k-limits c =
             cheap = c.letter_costs-costs.ensures.cheap;
             byte = c.struct_known-1.given.0.fits;
             size = c.requires;
-          } in begun) c.fill_rows.ensures c.if-k-limits.true;
+          } in begun) c.fill_rows.ensures (omega arith);
       only_first = c.fill_rows.ensures.used;
     }
 
@@ -50,7 +50,7 @@ best_word-word-requires c =
       cheap = c.letter_costs-costs.ensures.cheap;
       byte = c.struct_known-1.given.0.fits;
       size = c.requires;
-    } in begun) c.fill_rows.ensures c.if-k-limits.false
+    } in begun) c.fill_rows.ensures (omega arith)
 
 pub returns : goal.returns
 returns c =
@@ -63,7 +63,7 @@ returns c =
             cheap = c.letter_costs-costs.ensures.cheap;
             byte = c.struct_known-1.given.0.fits;
             size = c.requires;
-          } in begun) c.fill_rows.ensures c.if-k-limits.false w.rises_value w.marks_value;
+          } in begun) c.fill_rows.ensures (omega arith) w.rises_value w.marks_value;
       only_first = c.fill_rows.ensures.used;
     }
 

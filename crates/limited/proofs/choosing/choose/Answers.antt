@@ -63,7 +63,7 @@ returns-then-key-ge-NONE c =
             cheap = c.letter_costs-costs.ensures.cheap;
             most_is = c.at_most_64-most.ensures;
             size = c.requires;
-          } in begun) c.fill_rows.ensures c.if-key-ge-NONE.true;
+          } in begun) c.fill_rows.ensures (omega arith);
       only_first = c.fill_rows.ensures.used;
     }
 
@@ -77,7 +77,7 @@ cheapest_word-word-requires c =
       cheap = c.letter_costs-costs.ensures.cheap;
       most_is = c.at_most_64-most.ensures;
       size = c.requires;
-    } in begun) c.fill_rows.ensures c.if-key-ge-NONE.false
+    } in begun) c.fill_rows.ensures (omega arith)
 
 pub returns : goal.returns
 returns c =
@@ -90,7 +90,7 @@ returns c =
             cheap = c.letter_costs-costs.ensures.cheap;
             most_is = c.at_most_64-most.ensures;
             size = c.requires;
-          } in begun) c.fill_rows.ensures c.if-key-ge-NONE.false c.cheapest_word-word.ensures;
+          } in begun) c.fill_rows.ensures (omega arith) c.cheapest_word-word.ensures;
       only_first = c.fill_rows.ensures.used;
     }
 

@@ -10,6 +10,7 @@ use lib.Seq.{drop-cons}
 use borrow.Author.Rules.{rules}
 use borrow.Author.Tests.{lt-ltb, le-ltb, le-leb, lt-leb}
 use Rattle.words.specs.Records.{beyond}
+use native.Mathlib.Omega.{arith}
 use Rattle.words.proofs.records.is_outside.Goals as goal
 
 too_many : (l : List ℕ) → 64 < length l → true ≡ (ltb 64 (length l) || beyond l)
@@ -30,7 +31,7 @@ module _ (l : List ℕ) (i : ℕ) (left : beyond l ≡ beyond (drop i l)) where
 
 pub returns-then-numbers-gt64 : goal.returns-then-numbers-gt64
 returns-then-numbers-gt64 c =
-    too_many c.args.numbers.now c.if-numbers-gt64.true
+    too_many c.args.numbers.now (omega arith)
 
 pub loop-i-init : goal.loop-i-init
 loop-i-init c =
@@ -46,4 +47,4 @@ loop-i-preserved c =
 
 pub returns : goal.returns
 returns c =
-    none_found _ _ c.loop-i.invariant.1 c.if-numbers-gt64.false c.loop-i-test.false
+    none_found _ _ c.loop-i.invariant.1 (omega arith) c.loop-i-test.false
