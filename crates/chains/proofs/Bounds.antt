@@ -90,15 +90,20 @@ chain_of_0 (p ∷ c) = (λ h. absurd (omega (arith, h.sums, value_pos p)), λ e.
 -- ---- exponents
 
 -- The exponents of a part below 2^64.
+pub part_bounds : (p : Part) → value p < 2 ^ 64 → (p.a + p.b < 64) × (p.b < 41)
+unfolding value
+part_bounds p h =
+    let two : 2 ^ (p.a + p.b) ≤ value p = rw pow-add (mul-le-mul_left (2 ^ p.a) (pow-le-pow_left (omega arith) p.b)) in
+    let three : 3 ^ p.b ≤ value p = le_trans (le-mul_of_pos_right (3 ^ p.b) (pow_pos p.a)) (omega arith) in
+    (lt_of_not-le (λ g. omega (arith, pow_mono g)), lt_of_not-le (λ g. omega (arith, pow-le-pow_right {n = 3} (omega arith) g)))
+
+-- The same for what follows in this file, so that an edit of `part_bounds` fails at its own proof.
 bounded : (p : Part) → value p < 2 ^ 64 → (p.a + p.b < 64) × (p.b < 41)
 unfolding value
 bounded p h =
     let two : 2 ^ (p.a + p.b) ≤ value p = rw pow-add (mul-le-mul_left (2 ^ p.a) (pow-le-pow_left (omega arith) p.b)) in
     let three : 3 ^ p.b ≤ value p = le_trans (le-mul_of_pos_right (3 ^ p.b) (pow_pos p.a)) (omega arith) in
     (lt_of_not-le (λ g. omega (arith, pow_mono g)), lt_of_not-le (λ g. omega (arith, pow-le-pow_right {n = 3} (omega arith) g)))
-
-pub part_bounds : (p : Part) → value p < 2 ^ 64 → (p.a + p.b < 64) × (p.b < 41)
-part_bounds = bounded
 
 -- ---- the letters of a chain's word
 
@@ -110,12 +115,14 @@ weight_word_of c h = sym (total_chain_of (word_of c)) ∙ ap total (chain_word_c
 pub word_bound : (n k : ℕ) (c : List Part) → ChainOf n c → n < 2 ^ k → length (word_of c) ≤ k
 word_bound n k c h l = letters_bound k (word_of c) (word_reads c) (omega (arith, weight_word_of c h.chained))
 
+pub parts_bound : (n k : ℕ) (c : List Part) → ChainOf n c → n < 2 ^ k → length c ≤ k
+parts_bound n k c h l =
+    omega (arith, parts_letters (word_of c), ap length (chain_word_chain c h.chained), word_bound n k c h l)
+
+-- The same for what follows in this file, so that an edit of `parts_bound` fails at its own proof.
 at_most : (n k : ℕ) (c : List Part) → ChainOf n c → n < 2 ^ k → length c ≤ k
 at_most n k c h l =
     omega (arith, parts_letters (word_of c), ap length (chain_word_chain c h.chained), word_bound n k c h l)
-
-pub parts_bound : (n k : ℕ) (c : List Part) → ChainOf n c → n < 2 ^ k → length c ≤ k
-parts_bound = at_most
 
 -- A chain of a number below 2^64: how many parts it has, and the exponents of its largest part.
 pub chain_bounds : (n : ℕ) (p : Part) (c : List Part) → n < 2 ^ 64 → ChainOf n (p ∷ c)

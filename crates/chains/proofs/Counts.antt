@@ -91,11 +91,12 @@ ways_pos f m = by_rest P (λ g h. absurd (omega arith)) more m f
     more (suc zero) p half third g h = omega (arith, ways_rem_1 g 1 refl, ways_at_0_free)
     more (suc (suc i)) p half third g h = omega (arith, between g (suc (suc i)) h, half false (omega arith))
 
+pub count_at_most : (n : ℕ) → 1 ≤ n → count n ≤ n
+count_at_most n h = rw count_ways (ways_at_most true n h)
+
+-- The same for what follows in this file, so that an edit of `count_at_most` fails at its own proof.
 at_most_n : (n : ℕ) → 1 ≤ n → count n ≤ n
 at_most_n n h = rw count_ways (ways_at_most true n h)
-
-pub count_at_most : (n : ℕ) → 1 ≤ n → count n ≤ n
-count_at_most = at_most_n
 
 pub count_pos : (n : ℕ) → 1 ≤ count n
 count_pos zero = omega (arith, count_ways 0, ways_at_0_free)

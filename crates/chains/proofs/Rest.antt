@@ -51,14 +51,18 @@ unfolding chain_of total value
 weight_below u = rw (← total_chain_of u) (met_below origin [] u (omega arith))
 
 -- The rest at a point, of any word.
+pub rest_at : (u v : Word) → weight v ≡ total (chain_of (u ++ v)) / value (point_after origin u)
+rest_at u v =
+    let p : Part = point_after origin u in
+    rw (total_chain_of, weight_append, add-mul-div_left (weight u) (weight v) (value_pos p), div-eq_of_lt (weight_below u))
+    (omega arith)
+
+-- The same for what follows, so that an edit of `rest_at` fails at its own proof.
 rest_there : (u v : Word) → weight v ≡ total (chain_of (u ++ v)) / value (point_after origin u)
 rest_there u v =
     let p : Part = point_after origin u in
     rw (total_chain_of, weight_append, add-mul-div_left (weight u) (weight v) (value_pos p), div-eq_of_lt (weight_below u))
     (omega arith)
-
-pub rest_at : (u v : Word) → weight v ≡ total (chain_of (u ++ v)) / value (point_after origin u)
-rest_at = rest_there
 
 -- The rest at a point of a chain's walk.
 pub rest_of : (n : ℕ) (c : List Part) (u v : Word) → ChainOf n c → word_of c ≡ u ++ v → weight v ≡ n / value (point_after origin u)

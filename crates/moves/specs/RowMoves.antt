@@ -1,4 +1,5 @@
--- The two kinds of move on rows, up and down. On parts they are `Up` and `Move` (Moves); that both say the same is in Tie.
+-- The two kinds of move on rows, up and down. On parts they are `Up` and `Move` (Moves); that both say the same is in
+-- proofs/ChainRows.antt and proofs/MoveLaws.antt.
 --
 -- In this order: the numbers of a move; two layouts with a move between them; the moves up and down.
 -- Definitions only. The laws are in RowMoveLaws.

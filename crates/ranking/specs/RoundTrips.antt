@@ -180,7 +180,7 @@ letters_left_lem n c chain f room h = rw (chain_written n c chain f room h).1 (f
 pub record Trips (n : ℕ) (c : List Part) (scratch places room : List ℕ) : Type 0 where
   pub read_record : placed_of (lent_scratch scratch (of_record (map part_number c))) ≡ placed.At n (position n c)
   pub place_record : position_of (lent_scratch scratch (of_record (map part_number c))) ≡ told.At (position n c)
-  pub chain_at_lem : lent scratch places (at_position n (position n c)) ≡ gives n c
+  pub chain_at : lent scratch places (at_position n (position n c)) ≡ gives n c
   pub read_word : lent scratch places (of_word (word_of c)) ≡ gives n c
   pub next_chain : position n c + 1 < count n
       → lent scratch places (next_of (of_word (word_of c))) ≡ lent scratch places (at_position n (position n c + 1))
@@ -201,7 +201,7 @@ chain_trips n c scratch places room h f e r =
     record {
       read_record = rw (lent_scratch_lem scratch (of_record (map part_number c)) e.numbers, record_chain n c h f);
       place_record = rw (lent_scratch_lem scratch (of_record (map part_number c)) e.numbers, record_chain n c h f);
-      chain_at_lem = served (at_position n (position n c)) ∙ at_chain n c h;
+      chain_at = served (at_position n (position n c)) ∙ at_chain n c h;
       read_word = served (of_word (word_of c)) ∙ of_chain n c h f;
       next_chain = λ l. ap (lent scratch places) (next_below n c h f l);
       next_last = λ l. served (next_of (of_word (word_of c))) ∙ next_last n c h f l;

@@ -61,13 +61,16 @@ run_letter m x (suc (suc u)) k w h g = absurd (omega arith)
 -- ---- the run of a chain
 
 -- For every chain of n, every modulus and every x: so for m from 1 to 2^63 and x below m too.
+pub run_is_product : (n : ℕ) (c : List Part) → ChainOf n c → (m x : ℕ) → chain_run m x c ≡ n * x % m
+unfolding chain_run
+run_is_product n c h m x =
+    run_weight m x (word_of c) ∙ rw (← total_chain_of (word_of c), chain_word_chain c h.chained, h.sums)
+
+-- The same for what follows, so that an edit of `run_is_product` fails at its own proof.
 is_product : (n : ℕ) (c : List Part) → ChainOf n c → (m x : ℕ) → chain_run m x c ≡ n * x % m
 unfolding chain_run
 is_product n c h m x =
     run_weight m x (word_of c) ∙ rw (← total_chain_of (word_of c), chain_word_chain c h.chained, h.sums)
-
-pub run_is_product : (n : ℕ) (c : List Part) → ChainOf n c → (m x : ℕ) → chain_run m x c ≡ n * x % m
-run_is_product = is_product
 
 -- So any two chains of n run alike.
 pub chains_run_alike : (n : ℕ) (c d : List Part) → ChainOf n c → ChainOf n d → (m x : ℕ) → chain_run m x c ≡ chain_run m x d
