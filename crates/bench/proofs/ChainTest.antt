@@ -1,7 +1,10 @@
 -- Whether rows are those of a chain of n, found out from the highest row down: what `rows::is_chain` rests on.
--- In this order: rows from some row on; what is known of the rows looked at; one row more; the row below row i; all rows.
-use Rattle.std.specs.Prelude.{◌≡◌, refl, [], ◌∷◌, length, get_or, drop}
-use Rattle.std.proofs.Common.{sym, ap, ◌∙◌, pow-suc, arith, drop_of_length-le, pow_mono, drop-cons}
+-- In this order: rows from some row on; what is known of the rows looked at; one row more; the row below row i; all rows; what the code answers.
+use Rattle.std.specs.Prelude.{◌≡◌, ◌↔◌, IsTrue, false, eqb, refl, [], ◌∷◌, length, get_or, drop}
+use Rattle.std.proofs.Common.{sym, ap, ◌∙◌, pow-suc, arith, drop_of_length-le, pow_mono, drop-cons, eq-eqb}
+use Rattle.std.proofs.lemmas.Bool.{false≢true}
+use Rattle.std.proofs.Math.Decide.{ℕ_discrete}
+use borrow.Author.Tests.{eqb-true}
 use Prim.Native.Nat.{ℕ, zero, suc, ◌+◌, ◌-◌, ◌*◌, ◌/◌, ◌^◌, ◌≤◌, ◌<◌}
 use Rattle.std.proofs.Math.Nat.{dvd-zero}
 use Rattle.std.proofs.Math.Pow.{pow_pos}
@@ -129,3 +132,18 @@ module _ (R : Rows) (i : ℕ) where
 
     pub chain_no : (sum ≡ n → ⊥) → Laying n R → ⊥
     chain_no e w = e (all_looked.sums ∙ (held n R l w).1)
+
+    -- The last test of the code.
+    pub chain_told : length R ≡ 41 → IsTrue (eqb sum n) ↔ Laying n R
+    chain_told g = (
+      λ e. chain_yes g (eqb-true sum n e),
+      λ w. or_no (ℕ_discrete sum n) w,
+    )
+      where
+        or_no : Dec (sum ≡ n) → Laying n R → IsTrue (eqb sum n)
+        or_no (yes e) w = eq-eqb sum n e
+        or_no (no e) w = absurd (chain_no e w)
+
+-- A row that no chain of n has.
+pub refuses : {P : Type 0} → (P → ⊥) → IsTrue false ↔ P
+refuses f = (λ e. absurd (false≢true e), λ w. absurd (f w))

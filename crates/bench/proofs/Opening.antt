@@ -2,7 +2,7 @@
 -- In this order: one part more in the rows; the parts from a number of the record on; a turn of the loop; its start and its end; the
 -- bench.
 use Rattle.std.specs.Prelude.{◌≡◌, refl, ℕ, zero, suc, ◌≤◌, ◌<◌, ◌*◌, ◌+◌, ◌-◌, ◌^◌, ◌%◌, get_or, set, replicate}
-use Rattle.std.proofs.Common.{ap, sym, ◌∙◌, arith, drop_of_length-le, length-drop, drop-cons, take_at, drop_at}
+use Rattle.std.proofs.Common.{ap, sym, ◌∙◌, arith, drop_of_length-le, length-drop, append-nil, drop-cons, take_at, drop_at}
 use mathlib.Core.List.{List, [], ◌∷◌, ◌++◌, map, append_assoc}
 use Rattle.std.proofs.Math.ListN.{length, drop, length-append}
 use Rattle.std.proofs.lemmas.List.{replicate-append-replicate}
@@ -185,3 +185,24 @@ module _ (entry ys : List ℕ) (room : 378 ≤ length entry) (z : ys ≡ zeros (
       omega (arith, length-append (rows_of 41 c) (zeros 328), length_rows 41 c, length_zeros 328) in
       rw (e, d, ← append_assoc (rows_of 41 c) (zeros 328) (0 ∷ t))
       (set_seam (rows_of 41 c ++ zeros 328) 0 n t 369 m ∙ append_assoc (rows_of 41 c) (zeros 328) (n ∷ t))
+
+-- A bench that is zero has zero rows.
+pub zero_rows : mid_of 0 41 (replicate 378 0) ≡ zeros 41
+unfolding zeros
+zero_rows = refl
+
+-- With the chain laid out and n put in its place, it is a bench, and so it is with the numbers after it.
+pub zero_laid : (n : ℕ) (c : List Part) (R : List ℕ) → R ≡ rows_of 41 c
+    → set (put_mid 0 41 (replicate 378 0) R) 369 n ≡ opened n c []
+unfolding opened zeros
+zero_laid n c R e =
+    let t = zeros 8 ++ [] in
+    let r = rows_of 41 c in
+    let m : length (r ++ zeros 328) ≡ 369 = omega (arith, length-append r (zeros 328), length_rows 41 c, length_zeros 328) in
+    ap (λ (l : List ℕ). set (l ++ drop 41 (replicate 378 0)) 369 n) e
+    ∙ ap (λ (l : List ℕ). set l 369 n) (sym (append_assoc r (zeros 328) (0 ∷ t)))
+    ∙ set_seam (r ++ zeros 328) 0 n t 369 m ∙ append_assoc r (zeros 328) (n ∷ t)
+
+pub opened_over : (n : ℕ) (c : List Part) (entry : List ℕ) → opened n c [] ++ drop 378 entry ≡ opened n c entry
+unfolding opened
+opened_over n c entry = simp (append_assoc, append-nil)

@@ -2,17 +2,18 @@
 -- In this order: calls, and the bench after them; the theorems of record: a bench that was opened on a chain of n stays sound and keeps
 -- its n after any calls; saving and coming back lead back, whatever is called between but saving under the same name; coming back,
 -- moving and walking leave all eight names as they were.
-use Rattle.std.specs.Prelude.{◌≡◌, Bool, List, [], ◌∷◌, ℕ, suc, ◌≤◌, ◌<◌, length}
+use Rattle.std.specs.Prelude.{◌≡◌, Err, Bool, List, [], ◌∷◌, ℕ, suc, ◌≤◌, ◌<◌, length}
 use Rattle.std.proofs.Math.Path.{refl}
 use Rattle.std.proofs.Common.{sym, ap, ◌∙◌, arith}
 use Rattle.std.proofs.Math.Decide.{dec_lt, ℕ_discrete}
+use Rattle.refusals.specs.declared.Refusal.TheVariants.{NoMove}
 use Rattle.words.specs.Records.{record_parts, Burned}
 use Rattle.moves.specs.Rows.{rows_of}
 use Rattle.moves.proofs.MoveLaws.{move_keeps}
 use Rattle.moves.proofs.Deciding.{movable}
 use Rattle.moves.proofs.WalkLaws.{the_walk, walk_keeps}
 use Rattle.bench.specs.Sound.{number_in, state_at, saved_in, Sound}
-use Rattle.bench.specs.Benches.{with_saved, opened, bench_left, refused, move_outcome, save_outcome, back_outcome, walk_left}
+use Rattle.bench.specs.Benches.{with_saved, opened, bench_left, move_outcome, save_outcome, back_outcome, walk_left}
 use Rattle.bench.specs.Benches.{walk_of}
 use Rattle.bench.proofs.BenchLaws.{on_each, decided_each, save_done, save_refused, back_done, back_never, back_refused}
 use Rattle.bench.proofs.Kept.{changed, length_present, Kept, kept_none, kept_present, saved_under, opened_is, opened_sound}
@@ -48,11 +49,11 @@ module _ (l : List ℕ) (h : 378 ≤ length l) (s : Sound l) where
   kept_move : (kind : ℕ) (up : Bool) (row : ℕ) → Kept l (bench_left (move_outcome kind up row l) l)
   unfolding move_outcome bench_left
   kept_move kind up row =
-      on_each (λ o. Kept l (bench_left o l)) refused l _ h s
+      on_each (λ o. Kept l (bench_left o l)) Err l _ h s
       (λ t. let n = number_in l in
       let c = t.present.chain in
       let k = t.present.of_n in
-      decided_each (λ o. Kept l (bench_left o l)) (movable kind row up n c t.fits k) _ (refused 17)
+      decided_each (λ o. Kept l (bench_left o l)) (movable kind row up n c t.fits k) _ (Err NoMove)
       (λ m. kept_present (rows_of 41 m.0) l h s
       (record { chain = m.0; of_n = move_keeps n t.fits kind row up c m.0 k m.1; rows = refl }))
       (kept_none l s))

@@ -4,8 +4,8 @@ use Rattle.std.specs.Prelude.{◌≡◌, refl, List, [], ◌∷◌, ◌++◌, ma
 use Rattle.std.proofs.Common.{ap, sym, ◌∙◌, pow-suc, arith, length-append, length-set, take-append-drop, pow_pos, pow_mono, le-leb}
 use Rattle.std.proofs.lemmas.List.{map-append, length-map}
 use Rattle.std.proofs.Math.Decide.{dec_lt}
-use Rattle.std.specs.Int.Count.{count_leading_zeros}
-use Rattle.std.proofs.lemmas.Nat.{leading_top}
+use Rattle.std.specs.Int.Count.{count_leading_zeros, ones}
+use Rattle.std.proofs.lemmas.Nat.{leading_top, ones_cat}
 use Rattle.std.proofs.lemmas.List.Edits.{sets, sets-eq}
 use Rattle.std.proofs.Math.Seq.{length-sets}
 use Rattle.std.proofs.lemmas.Bool.{lt-leb}
@@ -55,6 +55,26 @@ pub row_none : (k b : ℕ) → row_parts k b 0 ≡ []
 unfolding row_parts
 row_none zero b = refl
 row_none (suc k) b = rw (lt-leb (2 ^ k) 0 (pow_pos k)) (row_none k b)
+
+-- They are as many as the row has one bits.
+row_count : (k b x : ℕ) → x < 2 ^ k → length (row_parts k b x) ≡ ones x
+unfolding row_parts ones
+row_count zero b x h = let z : x ≡ 0 = omega arith in rw z refl
+row_count (suc k) b x h = go (dec_lt x (2 ^ k)) (row_count k b)
+  where
+    go : Dec (x < 2 ^ k) → ((y : ℕ) → y < 2 ^ k → length (row_parts k b y) ≡ ones y) → length (row_parts (suc k) b x) ≡ ones x
+    go (yes l) rest = rw (row_less k b x l) (rest x l)
+    go (no l) rest =
+        let r : x - 2 ^ k < 2 ^ k = omega (arith, pow-suc 2 k) in
+        let q : x ≡ x - 2 ^ k + 2 ^ k = omega arith in
+        let p : x ≡ 1 * 2 ^ k + (x - 2 ^ k) = omega arith in
+        let e : ones x ≡ 1 + ones (x - 2 ^ k) = ap ones p ∙ ones_cat k 1 (x - 2 ^ k) r in
+        ap (λ (y : ℕ). length (row_parts (suc k) b y)) q
+        ∙ ap length (row_more k b (x - 2 ^ k))
+        ∙ omega (arith, rest (x - 2 ^ k) r, e)
+
+pub numbers_count : (b x : ℕ) → x < 2 ^ 64 → length (row_numbers b x) ≡ ones x
+numbers_count b x h = length-map (row_parts 64 b x) part_number ∙ row_count 64 b x h
 
 -- ---- those of a chain's rows are the chain
 
@@ -188,6 +208,26 @@ highest b x some fits =
 
 pub row_stored : (b x : ℕ) → x ≡ 0 → row_numbers b x ≡ []
 row_stored b x e = rw (e, row_none 64 b)
+
+-- While places are left for the row, so are parts.
+module _ (b : ℕ) {row at left i : ℕ} {entry l : List ℕ} (s : Storing (row_numbers b row) at entry (row_numbers b left) i l)
+    (less : left ≤ row) (fits : row < 2 ^ 64) where
+  pub row_turn : i < at + ones row → Highest b left
+  row_turn h = go (dec_lt 0 left)
+    where
+      go : Dec (0 < left) → Highest b left
+      go (yes p) = highest b left p (omega arith)
+      go (no p) = absurd (omega (arith, s.count, ap length (row_stored b left (omega arith)), numbers_count b row fits))
+
+  pub row_inside : i < at + ones row → i < length l
+  row_inside h = omega (arith, storing_room s, ap length (row_turn h).first)
+
+  pub row_end : at + ones row ≤ i → row_numbers b left ≡ []
+  row_end h = none (row_numbers b left) (omega (arith, s.count, numbers_count b row fits))
+    where
+      none : (xs : List ℕ) → length xs ≡ 0 → xs ≡ []
+      none [] e = refl
+      none (x ∷ xs) e = absurd (omega arith)
 
 -- ---- the rows
 

@@ -2,6 +2,7 @@
 --
 -- In this order: the case that was met; the number 0; the least key tells the parts and the price of the best chain; what the calls
 -- with the rows of keys in the scratch ask and give.
+use Rattle.std.specs.Prelude as std
 use Rattle.std.specs.Prelude.{◌≡◌, ℕ, ◌+◌, ◌*◌, ◌/◌, ◌%◌, ◌^◌, ◌<◌, ◌≤◌, min, true, T, List, length, slice_index, slice_index_or}
 use Rattle.std.proofs.Math.Path.{refl, sym}
 use Rattle.std.proofs.Common.{subst, ◌∙◌, arith}
@@ -26,22 +27,21 @@ use Rattle.words.specs.Packed.{bits, rise, mark}
 use Rattle.grid.specs.Grid.{rest_at}
 use Rattle.grid.specs.Rests.{rest_origin}
 use Rattle.grid.specs.Fill.{read_cell}
-use Rattle.best.specs.declared.choosing.Choice.{Choice}
-use Rattle.best.specs.declared.choosing.Choice.TheVariants as choice
-use Rattle.best.specs.KeyTable.{part_weight, no_key, letter_costs, Cheap, key_cell, free_key}
+use Rattle.best.specs.declared.terms.Priced.{Priced}
+use Rattle.best.specs.KeyTable.{part_weight, no_key, letter_costs, Low, Cheap, TermsOf, key_cell, free_key}
 use Rattle.best.specs.KeyTableLaws.{prices_low, prices_costs}
-use Rattle.best.specs.KeyRows.{KeysStart, KeysFilled}
+use Rattle.best.specs.KeyRows.{KeysFilled}
 use Rattle.best.specs.Walk.{best_from, best_word, KeyStart}
 use Rattle.best.specs.WalkLaws.{best_chosen}
 use Rattle.best.specs.Choosing.{WordChosen, ChosenBy}
 use Rattle.best.specs.ChosenLaws.{zero_word}
 
 -- By the case that was met.
-module _ (n : ℕ) (lim : Limits) (π : Prices) (r : Choice) (h : ChosenBy n lim π r) where
-  pub by_word : {rises marks p : ℕ} → r ≡ choice.Word rises marks p → WordChosen n lim π rises marks p
+module _ (n : ℕ) (lim : Limits) (π : Prices) (r : std.Option Priced) (h : ChosenBy n lim π r) where
+  pub by_word : {w : Priced} → r ≡ std.Some w → WordChosen n lim π w.word.rises w.word.marks w.price
   by_word e = subst (ChosenBy n lim π) e h
 
-  pub by_nothing : r ≡ choice.Nothing → best_chain n lim (price π) ≡ none
+  pub by_nothing : r ≡ std.None → best_chain n lim (price π) ≡ none
   by_nothing e = subst (ChosenBy n lim π) e h
 
 -- ---- the number 0
@@ -107,43 +107,38 @@ module _ {n : ℕ} (lim : Limits) (π : Prices) (fits : n < 2 ^ 64) (cheap : Che
 
 -- ---- with the rows in the scratch
 
--- What is at hand when the rows are filled: the costs of the prices, a number of 64 bits that is not 0, prices of 16 bits, a limit
--- on parts of 8 bits.
-pub record Begun (costs : List ℕ) (n : ℕ) (lim : Limits) (π : Prices) (scratch : List ℕ) : Type 0 where
-  pub costs_are : costs ≡ letter_costs π
-  pub fits : n < 2 ^ 64
-  pub some_left : 1 ≤ n
-  pub cheap : Cheap π
-  pub byte : lim.K < 2 ^ 8
-  pub size : scratch_size ≤ length scratch
+-- What filling all rows asks.
+pub fill_asked : {lim : Limits} {π : Prices} {costs : List ℕ} {A B : ℕ} (entry : List ℕ) → TermsOf (letter_costs π) lim π costs A B
+    → scratch_size ≤ length entry → Low costs × (scratch_size ≤ length entry)
+fill_asked {π = π} entry terms size = (rw terms.costs_are (prices_low π terms.cheap), size)
 
-module _ {costs : List ℕ} {n : ℕ} {lim : Limits} {π : Prices} {entry : List ℕ} (b : Begun costs n lim π entry) where
-  abbrev least_here : ℕ
-  least_here = least_key no_key (costs_of part_weight π) lim.A lim.B true origin n
+-- The rows of n, which is not 0, are filled over `entry`. The limit on parts is of 8 bits.
+module _
+    {n : ℕ} {lim : Limits} {π : Prices} {costs : List ℕ} {A B : ℕ} {entry l : List ℕ} (terms : TermsOf (letter_costs π) lim π costs A B)
+    (fits : n < 2 ^ 64) (some_left : 1 ≤ n) (byte : lim.K < 2 ^ 8) (f : KeysFilled costs A B n 0 entry l)
+  where
+    abbrev least_here : ℕ
+    least_here = least_key no_key (costs_of part_weight π) lim.A lim.B true origin n
 
-  pub fill_asked : KeysStart costs entry
-  fill_asked = record { low = rw b.costs_are (prices_low π b.cheap); size = b.size }
-
-  module _ {l : List ℕ} (f : KeysFilled costs lim.A lim.B n 0 entry l) where
     -- The number at 64 stands for the least key.
-    cell : min no_key (slice_index l 64) ≡ key_cell costs lim.A lim.B 0 0 true n
+    cell : min no_key (slice_index l 64) ≡ key_cell costs A B 0 0 true n
     cell =
-        let left : 1 ≤ rest_at n 0 0 = rw rest_origin b.some_left in
-        let G = free_key costs lim.A lim.B in
+        let left : 1 ≤ rest_at n 0 0 = rw rest_origin some_left in
+        let G = free_key costs A B in
         rw rest_origin at
         (read_cell 64 0 G (omega arith) 0 0 f.keys.rows (omega arith) (omega arith) (omega arith) left).cut
 
     least_is : min no_key (slice_index l 64) ≡ least_here
-    least_is = cell ∙ rw (b.costs_are, prices_costs)
+    least_is = cell ∙ rw (terms.costs_are, terms.doublings_are, terms.triplings_are, prices_costs)
 
     pub filled_none : lim.K < slice_index l 64 / part_weight → best_chain n lim (price π) ≡ none
-    filled_none h = none_within lim π b.fits b.cheap (omega (arith, least_is, b.byte))
+    filled_none h = none_within lim π fits terms.cheap (omega (arith, least_is))
 
     module _ (h : slice_index_or l 64 0 / part_weight ≤ lim.K) where
-      found : key_cell costs lim.A lim.B 0 0 true n < no_key
-      found = omega (arith, cell, b.byte)
+      found : key_cell costs A B 0 0 true n < no_key
+      found = omega (arith, cell)
 
-      pub word_asked : KeyStart costs lim.A lim.B n l
+      pub word_asked : KeyStart costs A B n l
       word_asked =
           record {
             turned = record {
@@ -151,19 +146,19 @@ module _ {costs : List ℕ} {n : ℕ} {lim : Limits} {π : Prices} {entry : List
               rests = f.keys.rows.rests;
               turns = λ r k. f.keys.turns r (omega arith) k;
             };
-            some_left = b.some_left;
+            some_left = some_left;
             found = found;
           }
 
       key_is : slice_index_or l 64 0 ≡ least_here
-      key_is = omega (arith, least_is, b.byte)
+      key_is = omega (arith, least_is)
 
-      pub filled_word : {rises marks : ℕ}
-          → rises ≡ bits rise (best_word costs lim.A lim.B n) → marks ≡ bits mark (best_word costs lim.A lim.B n)
+      pub filled_word : {rises marks : ℕ} → rises ≡ bits rise (best_word costs A B n) → marks ≡ bits mark (best_word costs A B n)
           → WordChosen n lim π rises marks (slice_index l 64 % part_weight)
-      filled_word er em =
-          rw (er, em, key_is) (go (best_word costs lim.A lim.B n) (best_chosen costs lim.A lim.B n found))
+      filled_word er em = rw (er, em, key_is) (go (best_word costs A B n) (best_chosen costs A B n found))
         where
-          go : (w : Word) → best_from costs lim.A lim.B true 0 0 n ≡ some w
+          go : (w : Word) → best_from costs A B true 0 0 n ≡ some w
               → WordChosen n lim π (bits rise w) (bits mark w) (least_here % part_weight)
-          go w e = word_within lim π b.fits b.cheap w (rw (b.costs_are, prices_costs) at e) (rw key_is at h)
+          go w e =
+              word_within lim π fits terms.cheap w
+              (rw (terms.costs_are, terms.doublings_are, terms.triplings_are, prices_costs) at e) (rw key_is at h)

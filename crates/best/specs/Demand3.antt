@@ -4,7 +4,7 @@
 -- In this order: what demand 3 asks of an answer and of the places; the outcome (`given_is_best`, `refused_none`), and what a
 -- caller gets where enough is lent, the answer and the places, from choosing (`chosen_demand_3`) and from the best chain
 -- (`demand_3`); the number 0; limits above 64, 63 and 40; the same price for every addition.
-use Rattle.std.specs.Prelude.{◌≡◌, ℕ, ◌^◌, ◌<◌, ◌↔◌, List, [], map, length}
+use Rattle.std.specs.Prelude.{◌≡◌, ℕ, ◌^◌, ◌<◌, ◌↔◌, List, [], map, length, Result, Ok, Err}
 use Rattle.std.proofs.Math.Path.{refl}
 use Rattle.std.proofs.Common.{ap, arith}
 use Rattle.std.proofs.Math.Option.{Option, none, some}
@@ -16,12 +16,12 @@ use Rattle.chains.proofs.BestLaws.{first_unique, best_chain_lem, best_none, firs
 use Rattle.chains.specs.OnePrice.{earlier_price, s_for_both}
 use Rattle.chains.proofs.OnePrice.{one_price, one_price_chosen}
 use Rattle.parts.specs.Parts.{part_number}
+use Rattle.refusals.specs.declared.Refusal.{Refusal}
+use Rattle.refusals.specs.declared.Refusal.TheVariants.{NoChainFits}
 use Rattle.ranking.specs.Services.{Outcome, refused, gives, lent, places_left}
 use Rattle.ranking.specs.RoundTrips.{lent_all}
 use Rattle.best.specs.declared.Chosen.{Chosen}
-use Rattle.best.specs.declared.Chosen.TheVariants as chosen
 use Rattle.best.specs.declared.Best.{Best}
-use Rattle.best.specs.declared.Best.TheVariants as best
 use Rattle.best.specs.Chosen.{or_none, best_outcome, chosen_of, best_of}
 
 -- The best chain stands in the places at exit, and its number of parts and its price are told: k and p.
@@ -38,18 +38,18 @@ pub record BestTold (n : ℕ) (lim : Limits) (π : Prices) (entry exit : List �
   pub told_position : i ≡ position n told.chain
 
 -- No chain is within the limits: it is refused with 5, and the places are as they were.
-abbrev pub NoneTold : ℕ → Limits → List ℕ → List ℕ → ℕ → Type 0
-NoneTold n lim entry exit r = (r ≡ 5) × NoneFits n lim × (exit ≡ entry)
+abbrev pub NoneTold : ℕ → Limits → List ℕ → List ℕ → Refusal → Type 0
+NoneTold n lim entry exit r = (r ≡ NoChainFits) × NoneFits n lim × (exit ≡ entry)
 
 -- What demand 3 asks of an answer, and of the places at exit, where `entry` stood in them: of choosing, but for the position,
-abbrev pub Chooses : ℕ → Limits → Prices → List ℕ → List ℕ → Chosen → Type 0
-Chooses n lim π entry exit (chosen.Chain k p) = ChosenTold n lim π entry exit k p
-Chooses n lim π entry exit (chosen.Refused r) = NoneTold n lim entry exit r
+abbrev pub Chooses : ℕ → Limits → Prices → List ℕ → List ℕ → Result Chosen Refusal → Type 0
+Chooses n lim π entry exit (Ok told) = ChosenTold n lim π entry exit told.k told.price
+Chooses n lim π entry exit (Err r) = NoneTold n lim entry exit r
 
 -- and of the best chain.
-abbrev pub Meets : ℕ → Limits → Prices → List ℕ → List ℕ → Best → Type 0
-Meets n lim π entry exit (best.Chain i k p) = BestTold n lim π entry exit i k p
-Meets n lim π entry exit (best.Refused r) = NoneTold n lim entry exit r
+abbrev pub Meets : ℕ → Limits → Prices → List ℕ → List ℕ → Result Best Refusal → Type 0
+Meets n lim π entry exit (Ok told) = BestTold n lim π entry exit told.position told.k told.price
+Meets n lim π entry exit (Err r) = NoneTold n lim entry exit r
 
 -- ---- the outcome
 
@@ -57,7 +57,7 @@ module _ (n : ℕ) (lim : Limits) (π : Prices) where
   -- The outcome is one of two.
   data Told : Outcome → Type 0 where
     fitting : (c : List Part) → IsBest n lim (price π) c → Told (gives n c)
-    nothing : NoneFits n lim → Told (refused 5)
+    nothing : NoneFits n lim → Told (refused NoChainFits)
 
   told : Told (best_outcome n lim (price π))
   unfolding best_outcome or_none
@@ -84,14 +84,14 @@ module _ (n : ℕ) (lim : Limits) (π : Prices) where
       is_given o (nothing f) b = absurd (f c b.chain b.within)
 
   -- it refuses with 5 exactly where there is none.
-  pub refused_none : (best_outcome n lim (price π) ≡ refused 5) ↔ NoneFits n lim
+  pub refused_none : (best_outcome n lim (price π) ≡ refused NoChainFits) ↔ NoneFits n lim
   refused_none = (is_none (best_outcome n lim (price π)) told, is_refused (best_outcome n lim (price π)) told)
     where
-      is_none : (o : Outcome) → Told o → o ≡ refused 5 → NoneFits n lim
+      is_none : (o : Outcome) → Told o → o ≡ refused NoChainFits → NoneFits n lim
       is_none o (fitting c b) e = let z : ◌≡◌ {A = ℕ} 0 1 = cc in absurd (omega arith)
       is_none o (nothing f) e = f
 
-      is_refused : (o : Outcome) → Told o → NoneFits n lim → o ≡ refused 5
+      is_refused : (o : Outcome) → Told o → NoneFits n lim → o ≡ refused NoChainFits
       is_refused o (fitting c b) f = absurd (f c b.chain b.within)
       is_refused o (nothing f) g = refl
 

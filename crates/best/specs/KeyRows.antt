@@ -6,7 +6,8 @@
 use Rattle.std.specs.Prelude.{◌≡◌, ℕ, suc, ◌+◌, ◌-◌, ◌/◌, ◌%◌, ◌^◌, ◌<◌, ◌≤◌, true, false, List, length, drop, slice_index}
 use Rattle.lent.specs.Lent.{scratch_size, OnlyFirst}
 use Rattle.grid.specs.Grid.{RowFrom, RowAsked, RowFilled, RowsFrom}
-use Rattle.best.specs.KeyTable.{no_key, Low, key_cell, Uncut, free_key, turn_at, Turns}
+use Rattle.best.specs.declared.keys.Row.{Row}
+use Rattle.best.specs.KeyTable.{no_key, key_cell, Uncut, free_key, turn_at, Turns}
 
 -- ---- a run with no word
 
@@ -25,7 +26,6 @@ pub record BelowAsked (costs : List ℕ) (A B b m q start right : ℕ) (part : L
   pub third : q ≡ m / 3
   pub room : 64 ≤ length part
   pub above : (i : ℕ) → i < start → 1 ≤ q / 2 ^ i → free_key costs A B i (suc b) (q / 2 ^ i) (slice_index part i)
-  pub low : Low costs
   pub last : start < 64
   pub left : 2 ^ start ≤ m
   pub filled : RowFrom (free_key costs A B) b m start part
@@ -50,15 +50,17 @@ pub record BelowFilled (costs : List ℕ) (A B b m start : ℕ) (entry part : Li
 
 -- ---- the row step
 
+-- Row b in the scratch: the rest of its first column, and that of the row above.
+abbrev pub row_of : List ℕ → ℕ → Row
+row_of l b = record { b = b; m = slice_index l (448 + b); q = slice_index l (449 + b) }
+
 -- What it asks.
-pub record RowOfKeys (costs : List ℕ) (A B b m q : ℕ) (part : List ℕ) : Type 0 where
-  pub asked : RowAsked (free_key costs A B) b m q 0 part
-  pub low : Low costs
+abbrev pub RowOfKeys : List ℕ → ℕ → ℕ → ℕ → ℕ → ℕ → List ℕ → Type 0
+RowOfKeys costs A B b m q part = RowAsked (free_key costs A B) b m q 0 part
 
 -- The same of a row within the limit on triplings, where the rest of the column `top` is 1.
 pub record LiveRow (costs : List ℕ) (A B b m q top : ℕ) (part : List ℕ) : Type 0 where
   pub asked : RowAsked (free_key costs A B) b m q 0 part
-  pub low : Low costs
   pub lo : 2 ^ top ≤ m
   pub hi : m < 2 ^ suc top
   pub last : top < 64
@@ -84,10 +86,4 @@ pub record KeysFilled (costs : List ℕ) (A B n k : ℕ) (entry l : List ℕ) : 
 -- What row k asks.
 pub record KeysAsked (costs : List ℕ) (A B n k : ℕ) (l : List ℕ) : Type 0 where
   pub keys : KeysFrom costs A B n (suc k) l
-  pub low : Low costs
   pub last : k < 41
-
--- What all rows ask.
-pub record KeysStart (costs l : List ℕ) : Type 0 where
-  pub low : Low costs
-  pub size : scratch_size ≤ length l

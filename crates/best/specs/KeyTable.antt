@@ -6,7 +6,7 @@
 -- In this order: the costs of letters as a list; the key of a cell, and what the cell holds; choices by a bit and by a test; the
 -- turns of a row. Definitions only; the laws are in KeyTableLaws.
 use Rattle.std.specs.Prelude.{◌≡◌, ℕ, zero, suc, ◌+◌, ◌-◌, ◌*◌, ◌/◌, ◌%◌, ◌^◌, ◌<◌, ◌≤◌, min, Bool, true, false, cond, List, [], ◌∷◌, nat_lt, slice_index}
-use Rattle.chains.specs.Best.{Prices}
+use Rattle.chains.specs.Best.{Prices, Limits}
 use Rattle.chains.proofs.Members.{rises}
 use Rattle.chains.specs.Keys.{Costs, least_key}
 use Rattle.grid.specs.Grid.{Meaning}
@@ -47,6 +47,13 @@ pub record Cheap (π : Prices) : Type 0 where
   pub t : π.t < 2 ^ 16
   pub s2 : π.s2 < 2 ^ 16
   pub s3 : π.s3 < 2 ^ 16
+
+-- The terms that words are weighed by: the costs that are wanted, and the limits on doublings and triplings. The prices are of 16 bits.
+pub record TermsOf (wanted : List ℕ) (lim : Limits) (π : Prices) (costs : List ℕ) (A B : ℕ) : Type 0 where
+  pub costs_are : costs ≡ wanted
+  pub doublings_are : A ≡ lim.A
+  pub triplings_are : B ≡ lim.B
+  pub cheap : Cheap π
 
 -- ---- a cell
 

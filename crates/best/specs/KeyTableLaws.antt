@@ -8,6 +8,7 @@ use Rattle.std.proofs.Math.Path.{sym, fun_ext}
 use Rattle.std.proofs.Common.{ap, ◌∙◌, ⊎_elim, lt_of_not-le, le-ltb, lt-ltb}
 use Rattle.std.proofs.Math.Decide.{dec_lt}
 use native.Mathlib.Omega.{arith}
+use Rattle.std.specs.Int.{from_bool}
 use Rattle.chains.specs.Chains.{Part}
 use Rattle.chains.specs.Words.{right, up}
 use Rattle.chains.specs.Best.{Prices}
@@ -80,6 +81,15 @@ less_low x y = go (nat_lt x y)
     go : (b : Bool) → cond b 1 0 ≤ 1
     go true = omega arith
     go false = omega arith
+
+-- The test as a number.
+pub less_told : (x y : ℕ) {t : ℕ} → t ≡ from_bool (nat_lt x y) → t ≡ less x y
+unfolding less
+less_told x y e = e ∙ go (nat_lt x y)
+  where
+    go : (b : Bool) → from_bool b ≡ cond b 1 0
+    go true = refl
+    go false = refl
 
 pub less_one : (x y : ℕ) → less x y ≡ 1 → x < y
 unfolding less

@@ -2,10 +2,9 @@
 --
 -- In this order: the two answers put together; that they are the best chain's answer (`choose_then_place`); how `best_chain` comes to
 -- its answer by calling both.
-use Rattle.std.specs.Prelude.{◌≡◌, ℕ, ◌-◌, ◌^◌, ◌<◌, ◌≤◌, List, [], map, length, take}
+use Rattle.std.specs.Prelude.{◌≡◌, ℕ, ◌^◌, ◌<◌, ◌≤◌, List, [], map, length, take, Result, Ok, Err}
 use Rattle.std.proofs.Math.Path.{refl, sym, ap}
 use Rattle.std.proofs.Common.{◌∙◌, arith}
-use Rattle.std.proofs.Math.Nat.{sub-zero}
 use Rattle.std.proofs.Math.ListN.{length-map}
 use Rattle.chains.specs.Chains.{Part, ChainOf}
 use Rattle.chains.specs.Best.{Prices, price, Limits}
@@ -13,30 +12,27 @@ use Rattle.chains.proofs.Bounds.{parts_bound}
 use Rattle.lent.specs.Lent.{OnlyFirst, scratch_size, little_scratch, scratch_left, too_little, Enough}
 use Rattle.lent.specs.LentLaws.{length_filled, used_filled, used_left, enough_zeroed}
 use Rattle.parts.specs.Parts.{part_number}
+use Rattle.refusals.specs.declared.Refusal.{Refusal}
 use Rattle.ranking.specs.Services.{Outcome, refused, gives, lent, lent_scratch, places_left, of_record, position_of}
 use Rattle.ranking.specs.Outcomes.{record_chain}
 use Rattle.ranking.specs.RoundTrips.{lent_gives, lent_scratch_lem, numbers_left_lem}
-use Rattle.ranking.specs.declared.Position.{Position}
-use Rattle.ranking.specs.declared.Position.TheVariants as told
 use Rattle.best.specs.declared.Chosen.{Chosen}
-use Rattle.best.specs.declared.Chosen.TheVariants as chosen
 use Rattle.best.specs.declared.Best.{Best}
-use Rattle.best.specs.declared.Best.TheVariants as best
 use Rattle.best.specs.Chosen.{best_outcome, chosen_of, best_of}
 use Rattle.best.specs.Demand3.{given_best}
 
 -- ---- the two answers
 
 -- What is handed to placing: the part numbers that choosing left in the places, as many as it told.
-unfoldable pub chosen_numbers : Chosen → List ℕ → List ℕ
-chosen_numbers (chosen.Chain k p) places = take k places
-chosen_numbers (chosen.Refused r) places = []
+unfoldable pub chosen_numbers : Result Chosen Refusal → List ℕ → List ℕ
+chosen_numbers (Ok told) places = take told.k places
+chosen_numbers (Err r) places = []
 
 -- The two answers put together. What either refuses is refused.
-unfoldable pub together : Chosen → Position → Best
-together (chosen.Chain k p) (told.At i) = best.Chain i k p
-together (chosen.Chain k p) (told.Refused r) = best.Refused r
-together (chosen.Refused r) x = best.Refused r
+unfoldable pub together : Result Chosen Refusal → Result ℕ Refusal → Result Best Refusal
+together (Ok told) (Ok i) = Ok (record { position = i; k = told.k; price = told.price })
+together (Ok told) (Err r) = Err r
+together (Err r) x = Err r
 
 -- ---- choosing, then placing
 
@@ -72,46 +68,47 @@ module _ (n : ℕ) (lim : Limits) (π : Prices) (fits : n < 2 ^ 64) where
 
   -- s and p were lent. Choosing answered x, and left p' and s'.
   module _
-      (s p : List ℕ) {p' s' : List ℕ} {x : Chosen} (answer : x ≡ chosen_of (price π) (asked s p))
+      (s p : List ℕ) {p' s' : List ℕ} {x : Result Chosen Refusal} (answer : x ≡ chosen_of (price π) (asked s p))
       (places : p' ≡ places_left (asked s p) p) (left : s' ≡ scratch_left (too_little 64 s p) s)
     where
       -- It refused.
-      pub refused_told : {r : ℕ} → x ≡ chosen.Refused r → best.Refused r ≡ best_of (price π) (asked s p)
+      pub refused_told : {r : Refusal} → x ≡ Err r → Err r ≡ best_of (price π) (asked s p)
       unfolding chosen_of best_of
       refused_told {r} e = go (asked s p) (sym e ∙ answer)
         where
-          go : (o : Outcome) → chosen.Refused r ≡ chosen_of (price π) o → best.Refused r ≡ best_of (price π) o
+          go : (o : Outcome) → Err r ≡ chosen_of (price π) o → Err r ≡ best_of (price π) o
           go (refused q) f = cc
           go (gives m c) f = let z : ◌≡◌ {A = ℕ} 0 1 = cc in absurd (omega arith)
 
       -- It gave a chain: enough was lent, and the part numbers stand in the places.
-      module _ {k cost : ℕ} (e : x ≡ chosen.Chain k cost) where
-        chain_left : Enough 64 s p × (k ≤ length p')
+      module _ {told : Chosen} (e : x ≡ Ok told) where
+        chain_left : Enough 64 s p × (told.k ≤ length p')
         unfolding chosen_of places_left
         chain_left = go (asked s p) refl
           where
-            go : (o : Outcome) → asked s p ≡ o → Enough 64 s p × (k ≤ length p')
+            go : (o : Outcome) → asked s p ≡ o → Enough 64 s p × (told.k ≤ length p')
             go (refused r) f = let z : ◌≡◌ {A = ℕ} 0 1 = cc (e, rw f at answer) in absurd (omega arith)
             go (gives m c) f =
                 let (enough, chain, low) = given_chain s p m c f in
                 let few = parts_bound m 64 c chain low in
-                let size : length c ≡ k = cc (e, rw f at answer) in
+                let own : told ≡ record { k = length c; price = price π c } = cc (e, rw f at answer) in
                 let same = length_filled 64 (map part_number c) p (omega (arith, length-map c part_number)) enough.room in
-                (enough, omega (arith, same, enough.room, ap length (rw f at places)))
+                (enough, rw own (omega (arith, same, enough.room, ap length (rw f at places))))
 
-        pub numbers_stand : k ≤ length p'
+        pub numbers_stand : told.k ≤ length p'
         numbers_stand = chain_left.1
 
         -- Then placing answered y, and left s''.
-        pub placed_told : {y : Position} {r : Best} {s'' : List ℕ} → r ≡ together (chosen.Chain k cost) y
-            → y ≡ position_of (lent_scratch s' (of_record (take (k - 0) p'))) → s'' ≡ scratch_left (little_scratch s') s'
-            → (r ≡ best_of (price π) (asked s p)) × ((p' ≡ places_left (asked s p) p) × (s'' ≡ scratch_left (too_little 64 s p) s))
+        pub placed_told : {y : Result ℕ Refusal} {s'' : List ℕ} → y ≡ position_of (lent_scratch s' (of_record (take told.k p')))
+            → s'' ≡ scratch_left (little_scratch s') s'
+            → (together (Ok told) y ≡ best_of (price π) (asked s p))
+            × ((p' ≡ places_left (asked s p) p) × (s'' ≡ scratch_left (too_little 64 s p) s))
         unfolding chosen_numbers
-        placed_told er ey es =
+        placed_told ey es =
             let h = chain_left.0 in
             let zeroed = enough_zeroed 64 s p h in
             let u : OnlyFirst scratch_size s s' = rw (left, zeroed) (used_filled scratch_size s h.numbers) in
             let both :
-            together (chosen.Chain k cost) (position_of (lent_scratch s' (of_record (take k p')))) ≡ best_of (price π) (asked s p) =
+            together (Ok told) (position_of (lent_scratch s' (of_record (take told.k p')))) ≡ best_of (price π) (asked s p) =
             rw (← answer, e, ← places) at (choose_then_place s p s' (omega (arith, u.same, h.numbers))) in
-            (er ∙ rw (ey, sub-zero k) both, (places, es ∙ used_left h.numbers u ∙ sym zeroed))
+            (rw ey both, (places, es ∙ used_left h.numbers u ∙ sym zeroed))

@@ -24,6 +24,8 @@ use Rattle.grid.specs.Masks.{ones_of}
 use Rattle.grid.specs.MaskLaws.{ones_bit}
 use Rattle.grid.specs.Rests.{row_above, rest_origin, rest_right, rest_up, point_bounds}
 use Rattle.words.specs.Packed.{bits, rise, mark}
+use Rattle.best.specs.declared.keys.Row.{Row}
+use Rattle.best.specs.KeyRows.{row_of}
 use Rattle.best.specs.KeyTable.{no_key, letter_by, costs_by, key_cell, third_key, half_key, less}
 use Rattle.best.specs.KeyTableLaws.{less_one, less_zero, half_key_lem, cell_step}
 use Rattle.best.specs.Walk.{Turned, rises_by, best_from, word_in, best_word, KeyWalked, KeyRisen, KeyStep, KeyStart}
@@ -364,7 +366,7 @@ module _ {costs : List ℕ} {A B n column b rises marks : ℕ} {scratch : List �
     pub row_low : b < 41
     row_low = (point_bounds n w.a b fits (omega (arith, two_here))).1
 
-    -- The rests that the code reads.
+    -- The rest that the code reads.
     pub rest_here : slice_index_or scratch (448 + b) 0 ≡ n / 3 ^ b
     rest_here = s.turned.rests b (omega (arith, row_low))
 
@@ -375,15 +377,6 @@ module _ {costs : List ℕ} {A B n column b rises marks : ℕ} {scratch : List �
 
     telling_free : KeyTelling costs A B n w.a b true (rest_at n w.a b) rises marks
     telling_free = telling_same w.telling refl (w.fresh two_here) refl refl refl
-
-    pub column_asked : ColumnAsked (slice_index scratch (448 + b)) (slice_index scratch (449 + b)) column
-    column_asked =
-        record {
-          third = rw (rest_here, rest_above, add-one) (sym (row_above n b));
-          a = w.a;
-          is = w.is;
-          left = rw rest_here (omega (arith, s.more));
-        }
 
     module _ {to : ℕ} (turn : TurnFrom (n / 3 ^ b) (slice_index scratch (128 + b)) w.a to) where
       abbrev k : ℕ
@@ -451,37 +444,47 @@ module _ {costs : List ℕ} {A B n column b rises marks : ℕ} {scratch : List �
               fresh = λ t. refl;
             }
 
-    -- As the code tells it, which reads the rests of row b and of the row above.
-    abbrev m : ℕ
-    m = slice_index scratch (448 + b)
+    -- As the code tells it, which reads the row in the scratch.
+    module _ {row : Row} (read : row ≡ row_of scratch b) where
+      own_is : row.m ≡ n / 3 ^ b
+      own_is = rw read rest_here
 
-    abbrev q : ℕ
-    q = slice_index scratch (449 + b)
+      third_is : row.q ≡ n / 3 ^ b / 3
+      third_is = rw read (rw (rest_above, add-one) (sym (row_above n b)))
 
-    module _ {to : ℕ} (f : ColumnFound m (slice_index scratch (128 + b)) column to) where
-      turned_at : TurnFrom (n / 3 ^ b) (slice_index scratch (128 + b)) w.a to
-      turned_at = rw rest_here at (f w.a w.is)
+      pub column_asked : ColumnAsked row.m row.q column
+      column_asked =
+          record {
+            third = rw (own_is, third_is) refl;
+            a = w.a;
+            is = w.is;
+            left = rw own_is (omega (arith, s.more));
+          }
 
-      third_is : q ≡ n / 3 ^ b / 3
-      third_is = rw (rest_above, add-one) (sym (row_above n b))
+      module _ {to : ℕ} (f : ColumnFound row.m (slice_index scratch (128 + b)) column to) where
+        turned_at : TurnFrom (n / 3 ^ b) (slice_index scratch (128 + b)) w.a to
+        turned_at = rw own_is at (f w.a w.is)
 
-      pub not_back : column ≤ to
-      not_back = rw (w.is, turned_at.is) (pow_mono (omega arith))
+        pub not_back : column ≤ to
+        not_back = rw (w.is, turned_at.is) (pow_mono (omega arith))
 
-      pub marks_fit : marks + bit_and m (to - column) * 2 ^ b % 2 ^ 64 < 2 ^ 64
-      marks_fit = rw (rest_here, (letters_fit turned_at).0) (letters_fit turned_at).1
+        pub marks_fit : marks + bit_and row.m (to - column) * 2 ^ b % 2 ^ 64 < 2 ^ 64
+        marks_fit = rw (own_is, (letters_fit turned_at).0) (letters_fit turned_at).1
 
-      pub row_ended : m / 2 < to → WalkedTo costs A B n to b rises (marks + bit_and m (to - column) * 2 ^ b % 2 ^ 64)
-      row_ended h = let h' = rw rest_here at h in rw (rest_here, (letters_fit turned_at).0) (ended turned_at h')
+        pub row_ended : row.m / 2 < to → WalkedTo costs A B n to b rises (marks + bit_and row.m (to - column) * 2 ^ b % 2 ^ 64)
+            × (column + b < to + b)
+        row_ended h =
+            let h' = rw own_is at h in
+            (rw (own_is, (letters_fit turned_at).0) (ended turned_at h'), omega (arith, s.more))
 
-      pub row_fits : to ≤ m / 2 → (rises + to * 2 ^ b % 2 ^ 64 < 2 ^ 64)
-          × (marks + bit_and m (to - column) * 2 ^ b % 2 ^ 64 + bit_and (ones_of m q) to * 2 ^ b % 2 ^ 64 < 2 ^ 64)
-      row_fits h = let h' = rw rest_here at h in rw (rest_here, third_is, (letters_fit turned_at).0) (up_fits turned_at h')
+        pub row_fits : to ≤ row.m / 2 → (rises + to * 2 ^ b % 2 ^ 64 < 2 ^ 64)
+            × (marks + bit_and row.m (to - column) * 2 ^ b % 2 ^ 64 + bit_and (ones_of row.m row.q) to * 2 ^ b % 2 ^ 64 < 2 ^ 64)
+        row_fits h = let h' = rw own_is at h in rw (own_is, third_is, (letters_fit turned_at).0) (up_fits turned_at h')
 
-      pub row_risen : to ≤ m / 2
-          → WalkedTo costs A B n to (b + 1) (rises + to * 2 ^ b % 2 ^ 64)
-          (marks + bit_and m (to - column) * 2 ^ b % 2 ^ 64 + bit_and (ones_of m q) to * 2 ^ b % 2 ^ 64)
-      row_risen h = let h' = rw rest_here at h in rw (rest_here, third_is, (letters_fit turned_at).0) (up_to_lem turned_at h')
+        pub row_risen : to ≤ row.m / 2
+            → WalkedTo costs A B n to (b + 1) (rises + to * 2 ^ b % 2 ^ 64)
+            (marks + bit_and row.m (to - column) * 2 ^ b % 2 ^ 64 + bit_and (ones_of row.m row.q) to * 2 ^ b % 2 ^ 64)
+        row_risen h = let h' = rw own_is at h in rw (own_is, third_is, (letters_fit turned_at).0) (up_to_lem turned_at h')
 
 -- ---- the start and the end, by columns
 

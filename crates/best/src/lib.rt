@@ -4,6 +4,7 @@
 
 mod choosing;
 mod keys;
+mod terms;
 mod walk;
 
 ghost use Rattle.std.specs.Prelude.{◌≡◌};
@@ -11,9 +12,10 @@ ghost use Rattle.chains.specs.Best.{price};
 ghost use Rattle.lent.specs.Lent.{too_little, scratch_left};
 ghost use Rattle.ranking.specs.Services.{lent, places_left};
 ghost use Rattle.best.specs.Chosen.{limits_of, prices_of, best_outcome, chosen_of, best_of};
+ghost use Rattle.best.specs.Choosing.{told_of, told_places};
 
-use choosing::Choice;
-use ranking::Position;
+use refusals::Refusal;
+pub use terms::{Priced, Terms};
 
 // The limits on a chain: how many parts, doublings and triplings it may have. Values above 64, 63 and 40 exclude nothing.
 #[derive(Clone, Copy)]
@@ -33,18 +35,30 @@ pub struct Prices {
     pub addition_3: u16,
 }
 
-// The chosen chain, its parts in the places: how many they are and its price; or the refusal.
+// The chosen chain, its parts in the places: how many they are and its price.
 #[derive(Clone, Copy)]
-pub enum Chosen {
-    Chain { k: u64, price: u64 },
-    Refused(u8),
+pub struct Chosen {
+    pub k: u64,
+    pub price: u64,
 }
 
 // The same with the chain's position in the whole list of n.
 #[derive(Clone, Copy)]
-pub enum Best {
-    Chain { position: u64, k: u64, price: u64 },
-    Refused(u8),
+pub struct Best {
+    pub position: u64,
+    pub k: u64,
+    pub price: u64,
+}
+
+// Tells a choice: the part numbers of the chosen word are put in the places, or it is refused with 5, and the places are as they were.
+// Both `choose_chain` and `limited::cheapest_chain` end so. In fewer places than 64 nothing is put.
+pub fn tell_choice(choice: Option<Priced>, places: &mut [u16]) -> Result<Chosen, Refusal>
+    ensures answer { result ≡ told_of choice }
+    ensures places { places.new ≡ told_places choice places.old }
+{
+    let Priced { word, price } = choice.ok_or(Refusal::NoChainFits)?;
+    let k = words::put_parts(word.rises, word.marks, places);
+    Ok(Chosen { k, price })
 }
 
 // Choosing: the best chain of n within the limits and by the prices. It tells the number of its parts and its price; the part
@@ -59,7 +73,7 @@ pub fn choose_chain(
     prices: Prices,
     scratch: &mut [u64],
     places: &mut [u16],
-) -> Chosen
+) -> Result<Chosen, Refusal>
     ensures answer { result
         ≡ chosen_of (price (prices_of prices))
         (lent scratch.old places.old (best_outcome n (limits_of limits) (price (prices_of prices)))) }
@@ -70,27 +84,15 @@ pub fn choose_chain(
     ensures scratch { scratch.new
         ≡ scratch_left (too_little 64 scratch.old places.old) scratch.old }
 {
-    if scratch.len() < lent::SCRATCH {
-        return Chosen::Refused(1);
-    }
     if places.len() < 64 {
-        return Chosen::Refused(1);
+        return Err(Refusal::LittleLent);
     }
-    match choosing::choose(n, limits, prices, scratch) {
-        Choice::Word {
-            rises,
-            marks,
-            price,
-        } => {
-            lent::clear_scratch(scratch);
-            let k = words::put_parts(rises, marks, places);
-            Chosen::Chain { k, price }
-        }
-        Choice::Nothing => {
-            lent::clear_scratch(scratch);
-            Chosen::Refused(5)
-        }
-    }
+    let Some(first) = scratch.first_chunk_mut() else {
+        return Err(Refusal::LittleLent);
+    };
+    let choice = choosing::choose(n, limits, prices, first);
+    *first = [0; lent::SCRATCH];
+    tell_choice(choice, places)
 }
 
 // The best chain with its position: `choose_chain` finds it, and `ranking::place_record` tells the position of the parts that it left
@@ -101,7 +103,7 @@ pub fn best_chain(
     prices: Prices,
     scratch: &mut [u64],
     places: &mut [u16],
-) -> Best
+) -> Result<Best, Refusal>
     ensures answer { result
         ≡ best_of (price (prices_of prices))
         (lent scratch.old places.old (best_outcome n (limits_of limits) (price (prices_of prices)))) }
@@ -112,14 +114,7 @@ pub fn best_chain(
     ensures scratch { scratch.new
         ≡ scratch_left (too_little 64 scratch.old places.old) scratch.old }
 {
-    match choose_chain(n, limits, prices, scratch, places) {
-        Chosen::Chain { k, price } => {
-            let end = k as usize;
-            match ranking::place_record(&places[0..end], scratch) {
-                Position::At(position) => Best::Chain { position, k, price },
-                Position::Refused(number) => Best::Refused(number),
-            }
-        }
-        Chosen::Refused(number) => Best::Refused(number),
-    }
+    let Chosen { k, price } = choose_chain(n, limits, prices, scratch, places)?;
+    let position = ranking::place_record(&places[..k as usize], scratch)?;
+    Ok(Best { position, k, price })
 }

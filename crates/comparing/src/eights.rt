@@ -3,24 +3,14 @@
 ghost use Rattle.std.specs.Prelude.{◌≡◌, [], ◌∷◌, ◌++◌, ◌+◌, ◌-◌, ◌≤◌, ◌<◌, eqb, length, take, drop, replicate};
 ghost use Rattle.std.specs.Int.Bits.{bit_and};
 ghost use Rattle.chains.specs.Words.{Word};
-ghost use Rattle.comparing.specs.Eights.{high_first, EightOf, all_follow};
+ghost use Rattle.comparing.specs.Eights.{EightOf, all_follow};
 
-// Eight bytes as one number, the first highest. The sum is made in pairs: then the compiler makes one load and one byte swap of eight
-// loads.
-fn number_of(a: u8, b: u8, c: u8, d: u8, e: u8, f: u8, g: u8, h: u8) -> u64
-    ensures { result ≡ high_first (a ∷ b ∷ c ∷ d ∷ e ∷ f ∷ g ∷ h ∷ []) }
-{
-    ((a as u64 * 0x0100_0000_0000_0000 + b as u64 * 0x0001_0000_0000_0000)
-        + (c as u64 * 0x0100_0000_0000 + d as u64 * 0x0001_0000_0000))
-        + ((e as u64 * 0x0100_0000 + f as u64 * 0x0001_0000) + (g as u64 * 0x0100 + h as u64))
-}
-
-// The number of the eight letters from the place i on.
+// The number of the eight letters from the place i on: one load and one byte swap.
 pub fn eight_at(letters: &[u8], i: usize) -> u64
     requires { i + 8 ≤ length letters.now }
     ensures { EightOf (take 8 (drop i letters.now)) result }
 {
-    number_of(
+    u64::from_be_bytes([
         letters[i],
         letters[i + 1],
         letters[i + 2],
@@ -29,14 +19,14 @@ pub fn eight_at(letters: &[u8], i: usize) -> u64
         letters[i + 5],
         letters[i + 6],
         letters[i + 7],
-    )
+    ])
 }
 
 // Eight letters without the first, and with another letter behind them.
 fn with_last(x: u64, letter: u8) -> u64
     ensures { (u : Word) → EightOf u x → EightOf (drop 1 u ++ (letter ∷ [])) result }
 {
-    x % 0x0100_0000_0000_0000 * 0x0100 + letter as u64
+    x % 0x0100_0000_0000_0000 * 0x0100 + u64::from(letter)
 }
 
 // The number of fewer than eight letters, with 3s in front of them.
@@ -45,10 +35,8 @@ pub fn few_letters(letters: &[u8]) -> u64
     ensures { EightOf (replicate (8 - length letters.now) 3 ++ letters.now) result }
 {
     let mut x: u64 = 0x0303_0303_0303_0303;
-    let mut i = 0;
-    while i < letters.len() {
-        x = with_last(x, letters[i]);
-        i += 1;
+    for letter in letters {
+        x = with_last(x, *letter);
     }
     x
 }

@@ -2,50 +2,35 @@
 ghost use Rattle.std.specs.Prelude.{◌≡◌, ◌≤◌, length, drop};
 ghost use Rattle.comparing.specs.Answers.{order_of};
 
-use super::{Compared, eights};
+use super::eights;
+use std::cmp::Ordering;
 
-// How u stands to v from the place `from` on: by the first letter in which they differ; where one begins with the other, the
-// shorter is earlier.
-fn singly(u: &[u8], v: &[u8], from: usize) -> Compared
+// How u stands to v from the place `from` on: by the first letter in which they differ, and then by their lengths.
+fn singly(u: &[u8], v: &[u8], from: usize) -> Ordering
     requires { (from ≤ length u.now) × (from ≤ length v.now) }
     ensures { result ≡ order_of (drop from u.now) (drop from v.now) }
 {
-    let mut i = from;
-    while i < u.len() {
-        if v.len() <= i {
-            return Compared::Later;
+    let both = u.len().min(v.len());
+    for i in from..both {
+        let order = u[i].cmp(&v[i]);
+        if order != Ordering::Equal {
+            return order;
         }
-        let x = u[i];
-        let y = v[i];
-        if x < y {
-            return Compared::Earlier;
-        }
-        if y < x {
-            return Compared::Later;
-        }
-        i += 1;
     }
-    if i == v.len() {
-        return Compared::Same;
-    }
-    Compared::Earlier
+    u.len().cmp(&v.len())
 }
 
-// How u stands to v: eight letters at a time while both have eight left, the tail singly.
-pub fn in_order(u: &[u8], v: &[u8]) -> Compared
+// How u stands to v: eight letters at a time while both have eight left, the tail singly. With std's order of the whole words a
+// comparison of words of 12 to 30 letters takes 39 ns, and 31 ns so (speed/sorting).
+pub fn in_order(u: &[u8], v: &[u8]) -> Ordering
     ensures { result ≡ order_of u.now v.now }
 {
-    let mut i = 0;
-    while (8 <= u.len() - i) & (8 <= v.len() - i) {
-        let eight_u = eights::eight_at(u, i);
-        let eight_v = eights::eight_at(v, i);
-        if eight_u < eight_v {
-            return Compared::Earlier;
+    let both = u.len().min(v.len()) / 8;
+    for k in 0..both {
+        let order = eights::eight_at(u, 8 * k).cmp(&eights::eight_at(v, 8 * k));
+        if order != Ordering::Equal {
+            return order;
         }
-        if eight_v < eight_u {
-            return Compared::Later;
-        }
-        i += 8;
     }
-    singly(u, v, i)
+    singly(u, v, 8 * both)
 }

@@ -7,17 +7,15 @@ ghost use Rattle.std.specs.Prelude.{◌≡◌, suc, ◌-◌, ◌/◌, ◌%◌, �
 ghost use mathlib.Core.List.{Memᴰ};
 ghost use Rattle.chains.specs.Words.{Word};
 ghost use Rattle.chains.specs.Listing.{list_of, count_before, ways};
-ghost use Rattle.lent.specs.Lent.{scratch_size};
 ghost use Rattle.words.specs.Packed.{bits, rise};
 ghost use Rattle.grid.specs.Grid.{rest_at};
 ghost use Rattle.counting.specs.Table.{CountRows, CountsFilled};
 ghost use Rattle.counting.specs.Back.{TopOf, BackAsked, path_to};
 
 use super::rows;
-use std::num::{wrapping_add_u64, wrapping_sub_u64};
 
 // The highest bit of a number that is 1, and the number without it.
-#[derive(Drop)]
+#[derive(Clone, Copy)]
 struct Top {
     bit: usize,
     below: u64,
@@ -27,7 +25,7 @@ fn top_of(x: u64) -> Top
     requires { 0 < x }
     ensures { TopOf x result.bit result.below × (result.bit < 64) }
 {
-    let bit = 63 - u64::leading_zeros(x) as usize;
+    let bit = 63 - x.leading_zeros() as usize;
     Top {
         bit,
         below: x - (1 << bit),
@@ -35,40 +33,37 @@ fn top_of(x: u64) -> Top
 }
 
 // Fills row b and tells how many words begin with a rise of a at the point (a, b), where b can rise too.
-fn rising_a(n: u64, a: usize, b: usize, scratch: &mut [u64]) -> u64
+fn rising_a(n: u64, a: usize, b: usize, scratch: &mut [u64; lent::SCRATCH]) -> u64
     requires { CountRows n (suc b) scratch.old × (a < 64) × (b < 41) }
     ensures value { 2 ≤ rest_at n a b → rest_at n a b % 3 ≤ 1 → result ≡ ways false (rest_at n a b / 2) }
     ensures counts_filled { CountsFilled n b scratch.old scratch.new }
 {
     let above = scratch[rows::place_of(b + 1) + a];
     rows::fill_next(n, b, scratch);
-    wrapping_sub_u64(scratch[rows::place_of(b) + a], above)
+    scratch[rows::place_of(b) + a].wrapping_sub(above)
 }
 
 // The words before, along a path whose last point is not counted: b rises as often as it has ones.
-fn walk_back(n: u64, path: u64, b: usize, scratch: &mut [u64]) -> u64
+fn walk_back(n: u64, path: u64, b: usize, scratch: &mut [u64; lent::SCRATCH]) -> u64
     requires { BackAsked n path b scratch.old }
     ensures value { (w : Word) → Memᴰ w (list_of n) → 0 < length w → path ≡ path_to w (length w - 1)
         → result ≡ count_before w (list_of n) }
     ensures counts_filled { CountsFilled n 0 scratch.old scratch.new }
 {
     let mut left = path;
-    let mut row = b;
     let mut before: u64 = 0;
-    while 0 < left {
+    for row in (0..b).rev() {
         let top = top_of(left);
         left = top.below;
-        row -= 1;
         let rising = rising_a(n, top.bit - row, row, scratch);
-        before = wrapping_add_u64(before, rising);
+        before = before.wrapping_add(rising);
     }
     before
 }
 
 // The position of a word of the list of n, told by where b rises in it; some number where no word of the list rises so. Leaves the
 // rows of n in the scratch. A path with more than 40 rises is that of no word.
-pub fn position_in(n: u64, rises: u64, scratch: &mut [u64]) -> u64
-    requires { scratch_size ≤ length scratch.old }
+pub fn position_in(n: u64, rises: u64, scratch: &mut [u64; lent::SCRATCH]) -> u64
     ensures value { (w : Word) → Memᴰ w (list_of n) → rises ≡ bits rise w → result ≡ count_before w (list_of n) }
     ensures counts_filled { CountsFilled n 0 scratch.old scratch.new }
 {
@@ -77,7 +72,7 @@ pub fn position_in(n: u64, rises: u64, scratch: &mut [u64]) -> u64
         return 0;
     }
     let path = top_of(rises).below;
-    let b = u64::count_ones(path) as usize;
+    let b = path.count_ones() as usize;
     if 40 < b {
         rows::fill_down(n, 0, scratch);
         return 0;

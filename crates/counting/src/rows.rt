@@ -10,7 +10,6 @@
 // and is stored nowhere.
 ghost use Rattle.std.specs.Prelude.{◌≡◌, suc, ◌<◌, ◌≤◌, length};
 ghost use Rattle.chains.specs.Listing.{count};
-ghost use Rattle.lent.specs.Lent.{scratch_size};
 ghost use Rattle.grid.specs.Grid.{RowAsked, RowFilled, row_place};
 ghost use Rattle.counting.specs.Table.{count_cell, LiveAsked, CountRows, CountsFilled};
 
@@ -26,9 +25,7 @@ fn fill_live(part: &mut [u64], up: usize, b: usize, m: u64, q: u64, top: usize)
     let ones = grid::ones(m, q);
     let zeros = grid::zeros(m, q);
     let mut right = 1;
-    let mut a = top;
-    while 0 < a {
-        a -= 1;
+    for a in (0..top).rev() {
         let above = part[up + a];
         right += above * ((ones >> a) % 2);
         part[a] = right + above * ((zeros >> a) % 2);
@@ -62,7 +59,7 @@ pub fn place_of(b: usize) -> usize
 
 // Row k of n, where the rows above it are filled. The step is called with either distance to the row above written out, which makes
 // two loops of it and saves an eighth of the time.
-pub fn fill_next(n: u64, k: usize, scratch: &mut [u64])
+pub fn fill_next(n: u64, k: usize, scratch: &mut [u64; lent::SCRATCH])
     requires { CountRows n (suc k) scratch.old × (k < 41) }
     ensures { CountsFilled n k scratch.old scratch.new }
 {
@@ -76,20 +73,18 @@ pub fn fill_next(n: u64, k: usize, scratch: &mut [u64])
 }
 
 // The rows of n from the last one in which something is left down to row k.
-pub fn fill_down(n: u64, k: usize, scratch: &mut [u64])
-    requires { scratch_size ≤ length scratch.old }
+pub fn fill_down(n: u64, k: usize, scratch: &mut [u64; lent::SCRATCH])
     ensures { CountsFilled n k scratch.old scratch.new }
 {
-    let mut i = grid::put_rests(n, &mut scratch[448..490]);
-    while k < i {
-        i -= 1;
-        fill_next(n, i, scratch);
+    let rows = grid::put_rests(n, &mut scratch[448..490]);
+    for b in (k..rows).rev() {
+        fill_next(n, b, scratch);
     }
 }
 
 // The count of n, whose rows stand in the scratch. All rests of the number 0 are 0, so it is answered apart: it has one chain, the
 // empty one.
-pub fn count_in(n: u64, scratch: &[u64]) -> u64
+pub fn count_in(n: u64, scratch: &[u64; lent::SCRATCH]) -> u64
     requires { CountRows n 0 scratch.now }
     ensures { result ≡ count n }
 {

@@ -2,12 +2,11 @@
 -- capitals have the same digits and the same numbers, by one law of one character, `value_of_capital`.
 --
 -- In this order: one character; a text.
-use Rattle.std.specs.Prelude.{◌≡◌, ℕ, ◌+◌, ◌-◌, ◌*◌, ◌≤◌, Bool, true, false, cond, List, [], ◌∷◌, refl}
+use Rattle.std.specs.Prelude.{◌≡◌, ℕ, ◌+◌, ◌-◌, ◌*◌, ◌≤◌, Bool, true, false, cond, Option, Some, is_some, unwrap_or, List, [], ◌∷◌, refl}
 use Rattle.std.proofs.Common.{sym, ap, ◌∙◌, arith}
 use Rattle.std.proofs.Math.Bool.{and-eq-true_iff}
 use Rattle.std.proofs.lemmas.Bool.{false≢true}
-use Rattle.std.proofs.Math.Option.{Option, some, get_or}
-use Rattle.digits.specs.Digits.{within, digit_value, is_some, is_digit, value_or0, digit_of, is_written, every, all_digits, read_from}
+use Rattle.digits.specs.Digits.{within, digit_value, is_digit, value_or0, digit_of, is_written, every, all_digits, read_from}
 use Rattle.digits.specs.Digits.{number_of, capital, capitals}
 use Rattle.digits.proofs.DigitLaws.{inside, ends, outside, value_capital, value_small, by_range, digit_decimal, digit_capital}
 
@@ -23,16 +22,16 @@ capital_same c h = rw (outside 97 102 c h)
 
 -- The capital of a digit is what is written for its value, and no other character changes. These two laws leave no other `capital`.
 pub capital_of_digit : (c : ℕ) → is_digit c ≡ true → capital c ≡ digit_of (value_or0 c)
-unfolding is_digit is_some value_or0
+unfolding is_digit value_or0
 capital_of_digit c =
-    by_range (λ (o : Option ℕ). is_some o ≡ true → capital c ≡ digit_of (get_or o 0)) c
+    by_range (λ (o : Option ℕ). is_some o ≡ true → capital c ≡ digit_of (unwrap_or o 0)) c
     (λ l h d. capital_same c (λ k m. omega arith) ∙ omega (arith, digit_decimal (c - 48) (omega arith)))
     (λ l h d. capital_same c (λ k m. omega arith) ∙ omega (arith, digit_capital (c - 55) (omega arith)))
     (λ l h d. capital_small c l h ∙ omega (arith, digit_capital (c - 87) (omega arith)))
     (λ d. absurd (false≢true d))
 
 pub capital_of_other : (c : ℕ) → is_digit c ≡ false → capital c ≡ c
-unfolding is_digit is_some
+unfolding is_digit
 capital_of_other c d = capital_same c (λ l h. false≢true (sym d ∙ rw (value_small c l h)))
 
 -- What holds of the capital of a small letter, and of a character as it is, holds of `capital`.
@@ -48,12 +47,12 @@ by_capital P c small other = go (within 97 102 c) refl
 pub value_of_capital : (c : ℕ) → digit_value (capital c) ≡ digit_value c
 value_of_capital c =
     by_capital (λ (d : ℕ). digit_value d ≡ digit_value c) c
-    (λ l h. value_capital (c - 32) (omega arith) (omega arith) ∙ ap some (omega arith) ∙ sym (value_small c l h))
+    (λ l h. value_capital (c - 32) (omega arith) (omega arith) ∙ ap Some (omega arith) ∙ sym (value_small c l h))
     refl
 
 value_or_0_of_capital : (c : ℕ) → value_or0 (capital c) ≡ value_or0 c
 unfolding value_or0
-value_or_0_of_capital c = ap (λ (o : Option ℕ). get_or o 0) (value_of_capital c)
+value_or_0_of_capital c = ap (λ (o : Option ℕ). unwrap_or o 0) (value_of_capital c)
 
 -- No small letter is written.
 written_capital : (c : ℕ) → is_written c ≡ true → capital c ≡ c

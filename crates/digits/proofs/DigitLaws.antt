@@ -4,15 +4,13 @@
 -- Only `value_decimal`, `value_capital`, `value_small`, `value_none` and `by_range` look at which characters are digits. Numbers
 -- rest on `by_value` (a value is below 16) and `value_digit_of` (what is written is read back), and their laws hold whichever the
 -- digits are. That the case of letters makes no difference is in CapitalLaws.
-use Rattle.std.specs.Prelude.{◌≡◌, ℕ, zero, suc, ◌+◌, ◌-◌, ◌*◌, ◌/◌, ◌%◌, ◌^◌, ◌<◌, ◌≤◌, Bool, true, false, cond, ◌&&◌, List, [], ◌∷◌, ◌++◌, length, drop, nat_le, nat_lt, slice_index, refl}
+use Rattle.std.specs.Prelude.{◌≡◌, ℕ, zero, suc, ◌+◌, ◌-◌, ◌*◌, ◌/◌, ◌%◌, ◌^◌, ◌<◌, ◌≤◌, Bool, true, false, cond, Option, Some, None, is_some, unwrap_or, ◌&&◌, List, [], ◌∷◌, ◌++◌, length, drop, nat_le, nat_lt, slice_index, refl}
 use Rattle.std.proofs.Common.{sym, ap, ◌∙◌, add-mul, mul_assoc, mul-le-mul_right, pow-suc, mod-eq_of_lt, add-one, arith, ltb-true, ltb-false, lt-ltb, le-ltb, leb-true, le-leb, length-append, drop-cons}
 use Rattle.std.proofs.Math.Bool.{and_assoc, and-eq-true_iff}
-use Rattle.std.proofs.Math.Option
-use Rattle.std.proofs.Math.Option.{Option, none, some}
 use Rattle.std.proofs.Math.Nat.{one-le-pow, pow-succ', pow-le-pow_right, mod-one}
 use Rattle.std.proofs.lemmas.Bool.{lt-leb}
 use Rattle.std.proofs.Math.Arith.{mod-mul}
-use Rattle.digits.specs.Digits.{within, digit_value, is_some, is_digit, value_or0, digit_of, is_written, every, all_digits, read_from}
+use Rattle.digits.specs.Digits.{within, digit_value, is_digit, value_or0, digit_of, is_written, every, all_digits, read_from}
 use Rattle.digits.specs.Digits.{number_of, digits_of, put_digits}
 
 -- ---- a range of characters
@@ -37,25 +35,25 @@ outside low high c h = go (within low high c) refl
 -- ---- one digit
 
 -- The characters that are digits, and the others.
-pub value_decimal : (c : ℕ) → 48 ≤ c → c ≤ 57 → digit_value c ≡ some (c - 48)
+pub value_decimal : (c : ℕ) → 48 ≤ c → c ≤ 57 → digit_value c ≡ Some (c - 48)
 unfolding digit_value
 value_decimal c h k = rw (inside 48 57 c)
 
-pub value_capital : (c : ℕ) → 65 ≤ c → c ≤ 70 → digit_value c ≡ some (c - 55)
+pub value_capital : (c : ℕ) → 65 ≤ c → c ≤ 70 → digit_value c ≡ Some (c - 55)
 unfolding digit_value
 value_capital c h k = rw (outside 48 57 c (λ l m. omega arith), inside 65 70 c)
 
-pub value_small : (c : ℕ) → 97 ≤ c → c ≤ 102 → digit_value c ≡ some (c - 87)
+pub value_small : (c : ℕ) → 97 ≤ c → c ≤ 102 → digit_value c ≡ Some (c - 87)
 unfolding digit_value
 value_small c h k = rw (outside 48 57 c (λ l m. omega arith), outside 65 70 c (λ l m. omega arith), inside 97 102 c)
 
-pub value_none : (c : ℕ) → (48 ≤ c → c ≤ 57 → ⊥) → (65 ≤ c → c ≤ 70 → ⊥) → (97 ≤ c → c ≤ 102 → ⊥) → digit_value c ≡ none
+pub value_none : (c : ℕ) → (48 ≤ c → c ≤ 57 → ⊥) → (65 ≤ c → c ≤ 70 → ⊥) → (97 ≤ c → c ≤ 102 → ⊥) → digit_value c ≡ None
 unfolding digit_value
 value_none c h k l = rw (outside 48 57 c h, outside 65 70 c k, outside 97 102 c l)
 
 -- What holds of the value in each range, and of none, holds of a character's value.
-pub by_range : (P : Option ℕ → Type 0) (c : ℕ) → (48 ≤ c → c ≤ 57 → P (some (c - 48))) → (65 ≤ c → c ≤ 70 → P (some (c - 55)))
-    → (97 ≤ c → c ≤ 102 → P (some (c - 87))) → P none → P (digit_value c)
+pub by_range : (P : Option ℕ → Type 0) (c : ℕ) → (48 ≤ c → c ≤ 57 → P (Some (c - 48))) → (65 ≤ c → c ≤ 70 → P (Some (c - 55)))
+    → (97 ≤ c → c ≤ 102 → P (Some (c - 87))) → P None → P (digit_value c)
 unfolding digit_value
 by_range P c decimal capital small other =
     in_range 48 57 decimal (in_range 65 70 capital (in_range 97 102 small other))
@@ -68,7 +66,7 @@ by_range P c decimal capital small other =
         go false e = outer
 
 -- So does what holds of every value below 16, and of none.
-pub by_value : (P : Option ℕ → Type 0) → ((v : ℕ) → v < 16 → P (some v)) → P none → (c : ℕ) → P (digit_value c)
+pub by_value : (P : Option ℕ → Type 0) → ((v : ℕ) → v < 16 → P (Some v)) → P None → (c : ℕ) → P (digit_value c)
 by_value P digit other c =
     by_range P c
     (λ l h. digit (c - 48) (omega arith))
@@ -78,7 +76,7 @@ by_value P digit other c =
 
 pub value_below : (c : ℕ) → value_or0 c < 16
 unfolding value_or0
-value_below c = by_value (λ (o : Option ℕ). Option.get_or o 0 < 16) (λ v h. h) (omega arith) c
+value_below c = by_value (λ (o : Option ℕ). unwrap_or o 0 < 16) (λ v h. h) (omega arith) c
 
 -- The character of a value below 10, and of one from 10 on.
 pub digit_decimal : (v : ℕ) → v < 10 → digit_of v ≡ 48 + v
@@ -97,18 +95,18 @@ by_digit v P decimal capital = go (nat_lt v 10) refl
     go false e = rw (digit_capital v (ltb-false v 10 e)) (capital (ltb-false v 10 e))
 
 -- The value of the character of v is v.
-pub value_digit_of : (v : ℕ) → v < 16 → digit_value (digit_of v) ≡ some v
+pub value_digit_of : (v : ℕ) → v < 16 → digit_value (digit_of v) ≡ Some v
 value_digit_of v h =
-    by_digit v (λ (c : ℕ). digit_value c ≡ some v)
-    (λ l. value_decimal (48 + v) (omega arith) (omega arith) ∙ ap some (omega arith))
-    (λ l. value_capital (55 + v) (omega arith) (omega arith) ∙ ap some (omega arith))
+    by_digit v (λ (c : ℕ). digit_value c ≡ Some v)
+    (λ l. value_decimal (48 + v) (omega arith) (omega arith) ∙ ap Some (omega arith))
+    (λ l. value_capital (55 + v) (omega arith) (omega arith) ∙ ap Some (omega arith))
 
 value_or0_digit_of : (v : ℕ) → v < 16 → value_or0 (digit_of v) ≡ v
 unfolding value_or0
-value_or0_digit_of v h = ap (λ (o : Option ℕ). Option.get_or o 0) (value_digit_of v h)
+value_or0_digit_of v h = ap (λ (o : Option ℕ). unwrap_or o 0) (value_digit_of v h)
 
 is_digit_digit_of : (v : ℕ) → v < 16 → is_digit (digit_of v) ≡ true
-unfolding is_digit is_some
+unfolding is_digit
 is_digit_digit_of v h = ap is_some (value_digit_of v h)
 
 is_written_digit_of : (v : ℕ) → v < 16 → is_written (digit_of v) ≡ true

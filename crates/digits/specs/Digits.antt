@@ -3,8 +3,7 @@
 --
 -- In this order: one digit; numbers; a text in capitals.
 -- Definitions only. That digits read back give the number is in DigitLaws; that capitals stand for the same is in CapitalLaws.
-use Rattle.std.specs.Prelude.{ℕ, zero, suc, ◌+◌, ◌-◌, ◌*◌, ◌/◌, ◌%◌, Bool, true, false, cond, ◌&&◌, ◌||◌, List, [], ◌∷◌, ◌++◌, map, length, drop, nat_le, nat_lt}
-use Rattle.std.proofs.Math.Option.{Option, none, some, get_or}
+use Rattle.std.specs.Prelude.{ℕ, zero, suc, ◌+◌, ◌-◌, ◌*◌, ◌/◌, ◌%◌, Bool, true, false, cond, Option, Some, None, is_some, unwrap_or, ◌&&◌, ◌||◌, List, [], ◌∷◌, ◌++◌, map, length, drop, nat_le, nat_lt}
 
 -- ---- one digit
 
@@ -16,20 +15,16 @@ within low high c = nat_le low c && nat_le c high
 -- capital is. Nothing else says which characters are digits.
 unfoldable pub digit_value : ℕ → Option ℕ
 digit_value c =
-    cond (within 48 57 c) (some (c - 48))
-    (cond (within 65 70 c) (some (c - 55))
-    (cond (within 97 102 c) (some (c - 87)) none))
-
-unfoldable pub is_some : Option ℕ → Bool
-is_some none = false
-is_some (some v) = true
+    cond (within 48 57 c) (Some (c - 48))
+    (cond (within 65 70 c) (Some (c - 55))
+    (cond (within 97 102 c) (Some (c - 87)) None))
 
 -- Whether a character is a digit, and its value, 0 where it is none.
 unfoldable pub is_digit : ℕ → Bool
 is_digit c = is_some (digit_value c)
 
 unfoldable pub value_or0 : ℕ → ℕ
-value_or0 c = get_or (digit_value c) 0
+value_or0 c = unwrap_or (digit_value c) 0
 
 -- The character of a value below 16.
 unfoldable pub digit_of : ℕ → ℕ
@@ -42,7 +37,7 @@ is_written c = within 48 57 c || within 65 70 c
 -- ---- numbers
 
 -- A test passes at every character.
-unfoldable pub every : (ℕ → Bool) → List ℕ → Bool
+unfoldable pub every : {A : Type 0} → (A → Bool) → List A → Bool
 every p [] = true
 every p (c ∷ s) = p c && every p s
 

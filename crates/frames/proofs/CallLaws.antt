@@ -2,6 +2,8 @@
 --
 -- In this order: a reply with zeros after it; the items of a line in an array; enough is lent to a service; a chain that a
 -- service gives.
+use Rattle.std.proofs.Common.{Result}
+use Rattle.std.proofs.Common.{Ok, Err}
 use mathlib.Core.Path.{◌≡◌, refl, sym, ◌∙◌}
 use mathlib.Core.List.{List, [], map, ◌++◌}
 use Prim.Native.Nat.{ℕ, ◌-◌, ◌≤◌}
@@ -12,24 +14,24 @@ use lib.Seq.{take-append_seam}
 use Rattle.chains.specs.Chains.{Part}
 use Rattle.lent.specs.Lent.{zeros, filled, scratch_size, scratch_left, too_little, Enough}
 use Rattle.lent.specs.LentLaws.{enough_zeroed}
+use Rattle.refusals.specs.declared.Refusal.{Refusal}
 use Rattle.parts.specs.Parts.{part_number}
 use Rattle.ranking.specs.Services.{Outcome, refused, gives, answer_of, places_left, lent}
 use Rattle.ranking.specs.RoundTrips.{numbers_left_lem, lent_all}
 use Rattle.ranking.specs.declared.Found.{Found}
-use Rattle.ranking.specs.declared.Found.TheVariants as found
+use Rattle.refusals.specs.Refusals.{number_of}
 use Rattle.digits.specs.Digits.{digits_of}
 use Rattle.digits.proofs.DigitLaws.{length_digits}
-use Rattle.lines.specs.Kinds.{Kind, row_of}
-use Rattle.lines.specs.Lines.{items_in, Fit, Items, unread, read, read_items, items_code, items_left}
+use Rattle.lines.specs.Kinds.{row_of}
+use Rattle.lines.specs.declared.Kind.{Kind}
+use Rattle.lines.specs.Lines.{items_in, Fit, read_items, items_count, items_left}
 use Rattle.lines.proofs.LineLaws.{items_fit}
-use Rattle.lines.specs.declared.Items.TheVariants as told
+use Rattle.std.specs.Result.{result_unwrap_or}
 use Rattle.frames.specs.Put.{put_at}
 use Rattle.frames.specs.PutLaws.{at_start, put_filled}
 use Rattle.frames.specs.ReplyDigits.{chain_digits}
 use Rattle.frames.specs.Replies.{refused_as, served_with, digits_in, chain_reply, replied_of}
 use Rattle.frames.specs.Calls.{Told, Handled, parts_in, found_reply, read_only}
-use Rattle.frames.specs.declared.Replied.{Replied}
-use Rattle.frames.specs.declared.Replied.TheVariants as replied
 
 -- ---- a reply with zeros after it
 
@@ -38,27 +40,23 @@ module _ (k : ℕ) (l₀ l m : List ℕ) (room : 514 ≤ length l₀) (short : k
   stand : (ds : List ℕ) → length ds ≡ k → l ≡ put_at 0 ds l₀ → m ≡ filled 514 ds l₀
   stand ds n p = put_filled 514 k ds l₀ l m (at_start k ds l₀ l n p) short room rest
 
-  pub told_served : (ds : List ℕ) → length ds ≡ k → l ≡ put_at 0 ds l₀ → Told (served_with ds) (replied.Digits k) l₀ m
+  pub told_served : (ds : List ℕ) → length ds ≡ k → l ≡ put_at 0 ds l₀ → Told (served_with ds) (Ok k) l₀ m
   unfolding replied_of digits_in
   told_served ds n p = record { answer = rw n; digits = stand ds n p }
 
-  pub told_refused : (number : ℕ) → k ≡ 2 → l ≡ put_at 0 (digits_of 2 number) l₀
-      → Told (refused_as number) (replied.Refused number) l₀ m
+  pub told_refused : (r : Refusal) → k ≡ 2 → l ≡ put_at 0 (digits_of 2 (number_of r)) l₀
+      → Told (refused_as r) (Err r) l₀ m
   unfolding replied_of digits_in
-  told_refused number e p = record { answer = refl; digits = stand (digits_of 2 number) (length_digits 2 number ∙ sym e) p }
+  told_refused r e p =
+      record { answer = refl; digits = stand (digits_of 2 (number_of r)) (length_digits 2 (number_of r) ∙ sym e) p }
 
 -- ---- the items of a line
 
--- Their number, and nothing where they are not read.
-pub read_number : (a : Items) → (n : ℕ) → items_code a ≡ told.Read n → n ≡ length (read_only a)
-unfolding items_code read_only
-read_number (unread r) n e = let z : ◌≡◌ {A = ℕ} 0 1 = cc in absurd (omega arith)
-read_number (read xs) n e = cc
-
-pub read_refused : (a : Items) → (r : ℕ) → items_code a ≡ told.Refused r → 0 ≡ length (read_only a)
-unfolding items_code read_only
-read_refused (unread q) r e = refl
-read_refused (read xs) r e = let z : ◌≡◌ {A = ℕ} 0 1 = cc in absurd (omega arith)
+-- Their number, and 0 where they are not read.
+pub read_or_none : (a : Result (List ℕ) Refusal) → result_unwrap_or (items_count a) 0 ≡ length (read_only a)
+unfolding items_count read_only
+read_or_none (Err r) = refl
+read_or_none (Ok xs) = refl
 
 -- The n items of a fit line were read into l, which held `entry` before.
 module _ (k : Kind) (line : List ℕ) (places n : ℕ) (fits : Fit line k)
@@ -101,13 +99,14 @@ unfolding places_left filled
 chain_left n c p p' e h =
     (omega (arith, length-map c part_number, simp (e, length-append) at h), rw e (numbers_left_lem n c p))
 
-module _ (f : Found) (places : List ℕ) where
-  pub found_chain : (n i k : ℕ) → f ≡ found.Chain n i k
-      → (parts_in f ≡ k) × (found_reply f places ≡ served_with (chain_digits n i (take (k - 0) places)))
+module _ (a : Result Found Refusal) (places : List ℕ) where
+  pub found_chain : (found : Found) → a ≡ Ok found
+      → (parts_in a ≡ found.k)
+      × (found_reply a places ≡ served_with (chain_digits found.n found.position (take (found.k - 0) places)))
   unfolding parts_in found_reply
-  found_chain n i k e = rw (e, sub-zero k) (refl, refl)
+  found_chain found e = rw (e, sub-zero found.k) (refl, refl)
 
-  pub found_refused : (r : ℕ) → f ≡ found.Refused r → found_reply f places ≡ refused_as r
+  pub found_refused : (r : Refusal) → a ≡ Err r → found_reply a places ≡ refused_as r
   unfolding found_reply
   found_refused r e = rw e
 
@@ -121,7 +120,7 @@ found_reply_lem (gives n c) p p' e h =
     (room, rw numbers)
 
 -- A service with the outcome o was lent the scratch s and the places p. It answered f and left p' in the places.
-module _ (o : Outcome) (f : Found) (s p p' : List ℕ) (numbers : scratch_size ≤ length s) (room : length p ≡ 64)
+module _ (o : Outcome) (f : Result Found Refusal) (s p p' : List ℕ) (numbers : scratch_size ≤ length s) (room : length p ≡ 64)
     (answer : f ≡ answer_of (lent s p o)) (left : p' ≡ places_left (lent s p o) p) (same : length p' ≡ 64) where
   as_outcome : (parts_in f ≤ 64) × (found_reply f p' ≡ chain_reply o)
   as_outcome = rw (answer, own_outcome s p numbers room o) (found_reply_lem o p p' (rw own_outcome at left) same)
@@ -129,7 +128,7 @@ module _ (o : Outcome) (f : Found) (s p p' : List ℕ) (numbers : scratch_size �
   pub found_fits : parts_in f ≤ 64
   found_fits = as_outcome.0
 
-  pub found_handled : (s' : List ℕ) {r : Replied} {out out' : List ℕ} → s' ≡ scratch_left (too_little 64 s p) s
+  pub found_handled : (s' : List ℕ) {r : Result ℕ Refusal} {out out' : List ℕ} → s' ≡ scratch_left (too_little 64 s p) s
       → Told (found_reply f p') r out out'
       → Handled (chain_reply o) r s s' out out'
   found_handled s' e told =

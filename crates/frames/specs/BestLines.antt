@@ -3,6 +3,7 @@
 --
 -- In this order: served and refused (`best_served`, `best_refused`); what the reply is read back as, and what it leads to, as
 -- demand 2 asks.
+use Rattle.std.specs.Prelude.{Ok}
 use Rattle.std.specs.Prelude.{◌≡◌, ◌↔◌, List, ◌++◌, map, ℕ, ◌+◌, ◌*◌, length}
 use Rattle.std.proofs.Math.Path.{refl, sym}
 use Rattle.std.proofs.Common.{◌∙◌, arith}
@@ -10,14 +11,16 @@ use Rattle.chains.specs.Chains.{Part}
 use Rattle.chains.specs.Listing.{position}
 use Rattle.chains.specs.Best.{price, NoneFits, IsBest}
 use Rattle.chains.proofs.PriceLaws.{price_fits}
+use Rattle.refusals.specs.declared.Refusal.{Refusal}
+use Rattle.refusals.specs.declared.Refusal.TheVariants.{NoChainFits}
 use Rattle.parts.specs.Parts.{part_number}
 use Rattle.ranking.specs.Services.{Outcome, refused, gives}
 use Rattle.best.specs.Chosen.{best_outcome}
 use Rattle.best.specs.KeyTable.{Cheap}
 use Rattle.best.specs.Demand3.{given_is_best, refused_none}
 use Rattle.digits.specs.Digits.{digits_of}
-use Rattle.lines.specs.Kinds.{best_line}
-use Rattle.lines.specs.Lines.{field, fit, shape_of}
+use Rattle.lines.specs.declared.Kind.TheVariants.{Best as best_line}
+use Rattle.lines.specs.Lines.{field, shape_of}
 use Rattle.lines.proofs.LineLaws.{field_below}
 use Rattle.frames.specs.ReplyDigits.{chain_digits, priced_digits, numbers_at}
 use Rattle.frames.specs.ReadBack.{ChainRead, price_read}
@@ -35,7 +38,7 @@ pub record BestReply (line ds : List ℕ) : Type 0 where
 abbrev asked : List ℕ → Outcome
 asked line = best_outcome (field line 1 8) (limits_in line) (price (prices_in line))
 
-module _ (line : List ℕ) (f : shape_of line ≡ fit best_line) where
+module _ (line : List ℕ) (f : shape_of line ≡ Ok best_line) where
   reply : reply_to line ≡ priced_reply (price (prices_in line)) (asked line)
   unfolding served
   reply = reply_fit line best_line f
@@ -43,7 +46,7 @@ module _ (line : List ℕ) (f : shape_of line ≡ fit best_line) where
   is_best : (c : List Part) → (asked line ≡ gives (field line 1 8) c) ↔ IsBest (field line 1 8) (limits_in line) (price (prices_in line)) c
   is_best = given_is_best (field line 1 8) (limits_in line) (prices_in line)
 
-  none_fits : (asked line ≡ refused 5) ↔ NoneFits (field line 1 8) (limits_in line)
+  none_fits : (asked line ≡ refused NoChainFits) ↔ NoneFits (field line 1 8) (limits_in line)
   none_fits = refused_none (field line 1 8) (limits_in line) (prices_in line)
 
   pub best_served : (ds : List ℕ) → (reply_to line ≡ served_with ds) ↔ BestReply line ds
@@ -65,20 +68,20 @@ module _ (line : List ℕ) (f : shape_of line ≡ fit best_line) where
               let h = rw same at g in
               record { chain = c; best = (is_best c).0 h; digits = cc (rw h at told) }
 
-  pub best_refused : (r : ℕ) → (reply_to line ≡ refused_as r) ↔ ((r ≡ 5) × NoneFits (field line 1 8) (limits_in line))
+  pub best_refused : (r : Refusal) → (reply_to line ≡ refused_as r) ↔ ((r ≡ NoChainFits) × NoneFits (field line 1 8) (limits_in line))
   unfolding priced_reply
   best_refused r = (there, λ n. reply ∙ rw (none_fits.1 n.1, n.0))
     where
-      there : reply_to line ≡ refused_as r → (r ≡ 5) × NoneFits (field line 1 8) (limits_in line)
+      there : reply_to line ≡ refused_as r → (r ≡ NoChainFits) × NoneFits (field line 1 8) (limits_in line)
       there e = go (asked line) refl
         where
           told : priced_reply (price (prices_in line)) (asked line) ≡ refused_as r
           told = sym reply ∙ e
 
-          go : (o : Outcome) → asked line ≡ o → (r ≡ 5) × NoneFits (field line 1 8) (limits_in line)
+          go : (o : Outcome) → asked line ≡ o → (r ≡ NoChainFits) × NoneFits (field line 1 8) (limits_in line)
           go (refused q) g =
-              let five = best_five (field line 1 8) (limits_in line) (prices_in line) q g in
-              (cc (rw g at told), none_fits.0 (rw five at g))
+              let none = best_five (field line 1 8) (limits_in line) (prices_in line) q g in
+              (cc (rw g at told), none_fits.0 (rw none at g))
           go (gives m c) g =
               let z : ◌≡◌ {A = ℕ} 0 1 = cc (rw g at told) in
               absurd (omega arith)

@@ -3,13 +3,16 @@
 -- In this order: the reply to a line (`case_blind`), and to two lines that differ only in the case of letters a to f
 -- (`same_but_for_case`); a call of `reply`; the characters of a reply (`reply_written`). A line with another letter gets 2 or 3 by
 -- its length, whichever case the letter has (`other_character` in Refusals). Whole files are in the crate stream, CaseBlind.
+use Rattle.std.specs.Prelude.{Result, Ok, Err}
 use Rattle.std.specs.Prelude.{◌≡◌, refl, Bool, true, false, List, ℕ}
 use Rattle.std.proofs.Common.{sym, ap, ◌∙◌}
+use Rattle.refusals.specs.declared.Refusal.{Refusal}
 use Rattle.digits.specs.Digits.{is_written, every, capitals}
 use Rattle.digits.proofs.CapitalLaws.{capitals_written}
-use Rattle.lines.specs.Kinds.{Kind, count_line, best_line, at_line, record_line, word_line, next_line, run_line}
-use Rattle.lines.specs.Kinds.{tree_line, to_tree_line}
-use Rattle.lines.specs.Lines.{Shape, unfit, fit, shape_of}
+use Rattle.lines.specs.declared.Kind.{Kind}
+use Rattle.lines.specs.declared.Kind.TheVariants.{Count as count_line, Best as best_line, At as at_line, Record as record_line, Word as word_line, Next as next_line, Run as run_line}
+use Rattle.lines.specs.declared.Kind.TheVariants.{Tree as tree_line, ToTree as to_tree_line}
+use Rattle.lines.specs.Lines.{shape_of}
 use Rattle.lines.proofs.CapitalLaws.{field_of_capitals, items_of_capitals, shape_of_capitals}
 use Rattle.frames.specs.Replies.{digits_in, limits_in, prices_in, exponents_from, served, reply_by_shape, reply_to, reply_of, replied_of}
 use Rattle.frames.specs.Replies.{answer_to, out_left}
@@ -35,9 +38,9 @@ pub case_blind : (line : List ℕ) → reply_to (capitals line) ≡ reply_to lin
 unfolding reply_to reply_by_shape
 case_blind line = rw (shape_of_capitals line) (go (shape_of line))
   where
-    go : (s : Shape) → reply_by_shape s (capitals line) ≡ reply_by_shape s line
-    go (unfit r) = refl
-    go (fit k) = served_of_capitals k line
+    go : (s : Result Kind Refusal) → reply_by_shape s (capitals line) ≡ reply_by_shape s line
+    go (Err r) = refl
+    go (Ok k) = served_of_capitals k line
 
 pub digits_case_blind : (line : List ℕ) → reply_of (capitals line) ≡ reply_of line
 unfolding reply_of

@@ -3,22 +3,24 @@
 -- part stand since T-06.
 --
 -- In this order: the definitions, for these laws alone; a line with the same s2 and s3 (`one_price_reply`); an earlier line.
+use Rattle.std.specs.Prelude.{Some, Ok}
 use Rattle.std.specs.Prelude.{◌≡◌, true, List, ◌++◌, ℕ, ◌+◌, ◌*◌, ◌≤◌, take, drop}
 use Rattle.std.proofs.Math.Path.{refl, sym, ap}
 use Rattle.std.proofs.Common.{◌∙◌, arith, length-append, length-drop, take-append-drop}
 use Rattle.std.proofs.Math.Bool.{and-eq-true_iff}
-use Rattle.std.proofs.Math.Option.{some}
 use Rattle.std.proofs.Math.ListN.{length}
 use Rattle.chains.specs.Chains.{Part}
 use Rattle.chains.specs.Best.{Prices, price}
 use Rattle.chains.specs.OnePrice.{earlier_price, s_for_both}
+use Rattle.refusals.specs.declared.Refusal.TheVariants.{BadLength}
 use Rattle.ranking.specs.Services.{Outcome, refused, gives}
 use Rattle.best.specs.Chosen.{best_outcome}
 use Rattle.best.specs.Demand3.{one_price_outcome, one_price_given}
 use Rattle.digits.specs.Digits.{is_digit, every, all_digits}
 use Rattle.digits.proofs.DigitLaws.{every_append}
-use Rattle.lines.specs.Kinds.{row_of, kind_of, best_line}
-use Rattle.lines.specs.Lines.{field, bytes_in, fit, shape_of, Proper}
+use Rattle.lines.specs.Kinds.{row_of, kind_of}
+use Rattle.lines.specs.declared.Kind.TheVariants.{Best as best_line}
+use Rattle.lines.specs.Lines.{field, bytes_in, shape_of, Proper}
 use Rattle.lines.proofs.LineLaws.{kind_byte, shape_kind, unfit_kind_length, line_fit}
 use Rattle.frames.specs.Replies.{Reply, refused_as, priced_reply, limits_in, prices_in, served, reply_by_shape, reply_to}
 use Rattle.frames.specs.ReadBack.{field_after, field_within}
@@ -49,7 +51,7 @@ proper line k e l m = record { some_there = omega arith; even = omega arith; mos
 -- ---- the same price for both additions
 
 -- A line of 20 bytes with the same s2 and s3 gets the reply by document 01's price.
-module _ (line : List ℕ) (f : shape_of line ≡ fit best_line) (e : field line 18 2 ≡ field line 16 2) where
+module _ (line : List ℕ) (f : shape_of line ≡ Ok best_line) (e : field line 18 2 ≡ field line 16 2) where
   abbrev π : Prices
   π = s_for_both (field line 12 2) (field line 14 2) (field line 16 2)
 
@@ -71,11 +73,11 @@ module _ (line : List ℕ) (f : shape_of line ≡ fit best_line) (e : field line
 -- ---- an earlier line, as it is and with its s twice
 
 module _ (line : List ℕ) (h : EarlierLine line) where
-  is_best : kind_of (field line 0 1) ≡ some best_line
+  is_best : kind_of (field line 0 1) ≡ Some best_line
   unfolding row_of
   is_best = ap kind_of h.kind ∙ kind_byte best_line
 
-  pub earlier_refused : reply_to line ≡ refused_as 2
+  pub earlier_refused : reply_to line ≡ refused_as BadLength
   unfolding reply_to reply_by_shape bytes_in row_of
   earlier_refused =
       let short : length line ≡ 2 * bytes_in best_line line → ⊥ = λ e. omega (arith, h.long) in
@@ -101,7 +103,7 @@ module _ (line : List ℕ) (h : EarlierLine line) where
   unfolding field
   s_repeated = field_after 18 0 2 line (drop 32 line) h.long
 
-  fit_twice : shape_of (s_twice line) ≡ fit best_line
+  fit_twice : shape_of (s_twice line) ≡ Ok best_line
   unfolding bytes_in row_of
   fit_twice =
       line_fit (s_twice line) best_line (record {

@@ -4,11 +4,11 @@
 -- (`chain_lines`); from the reply to any line of kinds 03 to 06 and 08 to the lines of kinds 03 and 04 about the chain that it
 -- gives (`reply_leads`, `record_then_at`, `at_then_record`).
 -- Kind 02 is in BestLines; kinds 08 and 09 are in TreeLines. The same of the services' answers is in ranking, RoundTrips.
+use Rattle.std.specs.Prelude.{Some}
 use Rattle.std.specs.Prelude.{◌≡◌, true, ℕ, ◌+◌, ◌*◌, ◌^◌, ◌≤◌, ◌<◌, T, drop}
 use Rattle.std.proofs.Math.Path.{refl, ap}
 use Rattle.std.proofs.Common.{sym, ◌∙◌, ⊎_elim, length-append}
 use mathlib.Core.List.{List, [], map, ◌++◌, append-nil, append_assoc}
-use Rattle.std.proofs.Math.Option.{some}
 use Rattle.std.proofs.Math.Nat.{mul_assoc, add-zero}
 use native.Mathlib.Omega.{arith}
 use Rattle.std.proofs.Math.ListN.{length}
@@ -20,13 +20,17 @@ use Rattle.chains.specs.Listing.{count, position}
 use Rattle.chains.proofs.Readers.{readers_good}
 use Rattle.chains.proofs.RoundTrip.{word_reads}
 use Rattle.chains.proofs.Bounds.{word_bound, parts_bound}
+use Rattle.refusals.specs.declared.Refusal.TheVariants.{NoSuchPosition, LastOfList}
+use Rattle.refusals.specs.declared.Refusal.{Refusal}
 use Rattle.parts.specs.Parts.{part_number, largest_part, largest_of}
 use Rattle.parts.proofs.Largest.{same_part_lem}
 use Rattle.ranking.specs.Services.{Outcome, refused, gives, at_position, of_word, next_of, of_record}
 use Rattle.ranking.specs.Outcomes.{at_past, at_chain, of_chain, next_below, next_last, record_chain}
 use Rattle.digits.specs.Digits.{is_digit, every, all_digits, digits_of}
 use Rattle.digits.proofs.DigitLaws.{every_append, length_digits, all_digits_digits}
-use Rattle.lines.specs.Kinds.{Kind, at_line, record_line, word_line, next_line, row_of, kind_of}
+use Rattle.lines.specs.Kinds.{row_of, kind_of}
+use Rattle.lines.specs.declared.Kind.{Kind}
+use Rattle.lines.specs.declared.Kind.TheVariants.{At as at_line, Record as record_line, Word as word_line, Next as next_line}
 use Rattle.lines.specs.Lines.{field, fields, count_in, bytes_in, items_in, Fit}
 use Rattle.lines.proofs.LineLaws.{line_fit, kind_byte, row_small}
 use Rattle.frames.specs.ReplyDigits.{values_digits, largest_digits, record_digits, head_digits, position_at, record_at, largest_at}
@@ -71,7 +75,7 @@ record_in ds = drop (2 * record_at) ds
 -- ---- they are fit, and hold the values
 
 -- The first byte of a line is its kind's.
-first_byte : (k : Kind) (l : List ℕ) → kind_of (field (digits_of 2 (row_of k).byte ++ l) 0 1) ≡ some k
+first_byte : (k : Kind) (l : List ℕ) → kind_of (field (digits_of 2 (row_of k).byte ++ l) 0 1) ≡ Some k
 first_byte k l = ap kind_of (field_first 1 (row_of k).byte l (omega (arith, (row_small k).byte_fits))) ∙ kind_byte k
 
 -- A line of kind 03.
@@ -243,7 +247,7 @@ pub record ChainLines (n : ℕ) (c : List Part) : Type 0 where
   pub burned : reply_to (record_line_of (record_digits (map part_number c))) ≡ chain_reply (gives n c)
   pub spelled : reply_to (word_line_of (word_of c)) ≡ chain_reply (gives n c)
   pub followed : position n c + 1 < count n → reply_to (next_line_of (word_of c)) ≡ reply_to (at_line_of n (position n c + 1))
-  pub last : position n c + 1 ≡ count n → reply_to (next_line_of (word_of c)) ≡ refused_as 11
+  pub last : position n c + 1 ≡ count n → reply_to (next_line_of (word_of c)) ≡ refused_as LastOfList
 
 pub chain_lines : (n : ℕ) (c : List Part) → ChainOf n c → n < 2 ^ 64 → ChainLines n c
 unfolding chain_reply
@@ -262,7 +266,7 @@ chain_lines n c h f =
     }
 
 -- A position that is not below the count.
-pub past_count : (n i : ℕ) → n < 2 ^ 64 → i < 2 ^ 64 → count n ≤ i → reply_to (at_line_of n i) ≡ refused_as 6
+pub past_count : (n i : ℕ) → n < 2 ^ 64 → i < 2 ^ 64 → count n ≤ i → reply_to (at_line_of n i) ≡ refused_as NoSuchPosition
 unfolding chain_reply
 past_count n i f g l = at_reply n i f g ∙ rw (at_past n i l)
 
@@ -305,7 +309,7 @@ chain_leads n c h f =
       burned = rw there l.burned;
     }
 
-outcome_leads : (rs : List ℕ) (o : Outcome) → Sound rs o → (ds : List ℕ) → chain_reply o ≡ served_with ds → Leads ds
+outcome_leads : (rs : List Refusal) (o : Outcome) → Sound rs o → (ds : List ℕ) → chain_reply o ≡ served_with ds → Leads ds
 unfolding chain_reply
 outcome_leads rs (refused r) s ds e = let z : ◌≡◌ {A = ℕ} 0 1 = cc in absurd (omega arith)
 outcome_leads rs (gives n c) s ds e =
@@ -313,7 +317,7 @@ outcome_leads rs (gives n c) s ds e =
     rw same at (chain_leads n c s.0 s.1)
 
 -- So do all replies of the kinds 03, 04, 05, 06 and 08.
-pub reply_leads : (line ds : List ℕ) (k : Kind) → kind_of (field line 0 1) ≡ some k → T (reply_row_of k).ends_with_chain
+pub reply_leads : (line ds : List ℕ) (k : Kind) → kind_of (field line 0 1) ≡ Some k → T (reply_row_of k).ends_with_chain
     → reply_to line ≡ served_with ds → Leads ds
 reply_leads line ds k first t e =
     let (o, sound, f) = (made k line).chain t in

@@ -5,37 +5,39 @@
 -- and leaves behind.
 -- Definitions only. The theory is in ServedLaws and ReplyLaws. That the services' outcomes are 003's chains is in the crates of the
 -- services.
+use Rattle.std.specs.Prelude.{Result, Ok, Err}
 use Rattle.std.specs.Prelude.{Bool, true, false, cond, List, [], ◌∷◌, map, ℕ, ◌+◌, eqb, length}
 use Rattle.chains.specs.Chains.{Part}
 use Rattle.chains.specs.Listing.{count, position}
 use Rattle.chains.specs.Best.{Prices, Limits, price}
+use Rattle.refusals.specs.declared.Refusal.{Refusal}
+use Rattle.refusals.specs.declared.Refusal.TheVariants.{LittleLent, NoChainFits, NoSuchPosition, BadWord, UnknownPart, NotChained, TooLarge, LastOfList, BadModulus, BadResidue, NoTreeWord, WrongExponents}
 use Rattle.parts.specs.Parts.{part_number}
 use Rattle.lent.specs.Lent.{filled}
 use Rattle.ranking.specs.Services.{Outcome, refused, gives, at_position, of_word, next_of, of_record}
 use Rattle.best.specs.Chosen.{best_outcome}
 use Rattle.trees.specs.Answers.{of_tree, TreeWord, no_tree, tree_word, record_tree}
 use Rattle.running.specs.Ran.{ran_of}
-use Rattle.running.specs.declared.Ran.{Ran}
-use Rattle.running.specs.declared.Ran.TheVariants as ran
 use Rattle.parts.specs.Parts.{largest_of, same_part}
 use Rattle.digits.specs.Digits.{digits_of}
-use Rattle.lines.specs.Kinds.{Kind, count_line, best_line, at_line, record_line, word_line, next_line, run_line}
-use Rattle.lines.specs.Kinds.{tree_line, to_tree_line, row_of}
-use Rattle.lines.specs.Lines.{field, items_in, Shape, unfit, fit, shape_of}
+use Rattle.refusals.specs.Refusals.{number_of}
+use Rattle.lines.specs.declared.Kind.{Kind}
+use Rattle.lines.specs.declared.Kind.TheVariants.{Count as count_line, Best as best_line, At as at_line, Record as record_line, Word as word_line, Next as next_line, Run as run_line}
+use Rattle.lines.specs.Kinds.{row_of}
+use Rattle.lines.specs.declared.Kind.TheVariants.{Tree as tree_line, ToTree as to_tree_line}
+use Rattle.lines.specs.Lines.{field, items_in, shape_of}
 use Rattle.frames.specs.ReplyDigits.{single_digits, chain_digits, priced_digits, letters_digits}
-use Rattle.frames.specs.declared.Replied.{Replied}
-use Rattle.frames.specs.declared.Replied.TheVariants as replied
 
 -- ---- replies and their digits
 
--- A line is refused by a number, or served with the digits of its reply.
+-- A line is refused, or served with the digits of its reply.
 pub data Reply : Type 0 where
-  refused_as : ℕ → Reply
+  refused_as : Refusal → Reply
   served_with : List ℕ → Reply
 
 -- The digits of a reply: a refused line gives its number as one byte.
 unfoldable pub digits_in : Reply → List ℕ
-digits_in (refused_as r) = digits_of 2 r
+digits_in (refused_as r) = digits_of 2 (number_of r)
 digits_in (served_with ds) = ds
 
 -- A service's refusal, or its chain with the part numbers, largest first.
@@ -49,9 +51,9 @@ priced_reply cost (refused r) = refused_as r
 priced_reply cost (gives n c) = served_with (priced_digits n (position n c) (map part_number c) (cost c))
 
 -- The refusal of a run, or its residue.
-unfoldable pub ran_reply : Ran → Reply
-ran_reply (ran.Refused r) = refused_as r
-ran_reply (ran.Residue x) = served_with (single_digits x)
+unfoldable pub ran_reply : Result ℕ Refusal → Reply
+ran_reply (Err r) = refused_as r
+ran_reply (Ok x) = served_with (single_digits x)
 
 -- The refusal of a record, or the letters of its chain's tree word.
 unfoldable pub letters_reply : TreeWord → Reply
@@ -88,8 +90,8 @@ tells_largest k line = same_part (exponents_in k line) (largest_of (items_in k l
 -- The reply to a line with a record: 16 where it does not tell its largest part. Any refusal but 15 comes before that.
 unfoldable pub or_sixteen : Bool → Reply → Reply
 or_sixteen true x = x
-or_sixteen false (served_with ds) = refused_as 16
-or_sixteen false (refused_as r) = refused_as (cond (eqb r 15) 16 r)
+or_sixteen false (served_with ds) = refused_as WrongExponents
+or_sixteen false (refused_as r) = refused_as (cond (eqb (number_of r) 15) WrongExponents r)
 
 -- The reply to a fit line of a kind, by the services' own definitions.
 unfoldable pub served : Kind → List ℕ → Reply
@@ -107,33 +109,33 @@ served to_tree_line line = or_sixteen (tells_largest to_tree_line line) (letters
 
 -- What the reply to a fit line of a kind can be.
 pub record ReplyRow : Type 0 where
-  -- The numbers that the line can be refused with.
-  pub refusals : List ℕ
+  -- What the line can be refused with.
+  pub refusals : List Refusal
   -- Whether the digits, where the line is served, end with the part numbers of a chain.
   pub ends_with_chain : Bool
 
-abbrev pub reply_row : List ℕ → Bool → ReplyRow
+abbrev pub reply_row : List Refusal → Bool → ReplyRow
 reply_row refusals ends_with_chain = record { refusals = refusals; ends_with_chain = ends_with_chain }
 
 unfoldable pub reply_row_of : Kind → ReplyRow
 reply_row_of count_line = reply_row [] false
-reply_row_of best_line = reply_row (5 ∷ []) false
-reply_row_of at_line = reply_row (6 ∷ []) true
-reply_row_of record_line = reply_row (8 ∷ 9 ∷ 10 ∷ 16 ∷ []) true
-reply_row_of word_line = reply_row (7 ∷ 10 ∷ []) true
-reply_row_of next_line = reply_row (7 ∷ 10 ∷ 11 ∷ []) true
-reply_row_of run_line = reply_row (13 ∷ 14 ∷ 8 ∷ 9 ∷ 10 ∷ 16 ∷ []) false
-reply_row_of tree_line = reply_row (15 ∷ 10 ∷ []) true
-reply_row_of to_tree_line = reply_row (8 ∷ 9 ∷ 10 ∷ 16 ∷ 15 ∷ []) false
+reply_row_of best_line = reply_row (NoChainFits ∷ []) false
+reply_row_of at_line = reply_row (NoSuchPosition ∷ []) true
+reply_row_of record_line = reply_row (UnknownPart ∷ NotChained ∷ TooLarge ∷ WrongExponents ∷ []) true
+reply_row_of word_line = reply_row (BadWord ∷ TooLarge ∷ []) true
+reply_row_of next_line = reply_row (BadWord ∷ TooLarge ∷ LastOfList ∷ []) true
+reply_row_of run_line = reply_row (BadModulus ∷ BadResidue ∷ UnknownPart ∷ NotChained ∷ TooLarge ∷ WrongExponents ∷ []) false
+reply_row_of tree_line = reply_row (NoTreeWord ∷ TooLarge ∷ []) true
+reply_row_of to_tree_line = reply_row (UnknownPart ∷ NotChained ∷ TooLarge ∷ WrongExponents ∷ NoTreeWord ∷ []) false
 
-abbrev pub refusals_of : Kind → List ℕ
+abbrev pub refusals_of : Kind → List Refusal
 refusals_of k = (reply_row_of k).refusals
 
 -- ---- the reply to a line
 
-unfoldable pub reply_by_shape : Shape → List ℕ → Reply
-reply_by_shape (unfit r) line = refused_as r
-reply_by_shape (fit k) line = served k line
+unfoldable pub reply_by_shape : Result Kind Refusal → List ℕ → Reply
+reply_by_shape (Err r) line = refused_as r
+reply_by_shape (Ok k) line = served k line
 
 -- The reply to a line.
 unfoldable pub reply_to : List ℕ → Reply
@@ -145,14 +147,14 @@ reply_of line = digits_in (reply_to line)
 
 -- ---- what a call answers and leaves behind
 
--- The answer for a reply: how many digits it has, or the number of the refusal.
-unfoldable pub replied_of : Reply → Replied
-replied_of (refused_as r) = replied.Refused r
-replied_of (served_with ds) = replied.Digits (length ds)
+-- The answer for a reply: how many digits it has, or the refusal.
+unfoldable pub replied_of : Reply → Result ℕ Refusal
+replied_of (refused_as r) = Err r
+replied_of (served_with ds) = Ok (length ds)
 
 -- Refusal 1 comes first.
-unfoldable pub answer_to : Bool → List ℕ → Replied
-answer_to true line = replied_of (refused_as 1)
+unfoldable pub answer_to : Bool → List ℕ → Result ℕ Refusal
+answer_to true line = replied_of (refused_as LittleLent)
 answer_to false line = replied_of (reply_to line)
 
 -- The bytes for the reply at exit: untouched with refusal 1, else the reply's digits, then zeros up to 514, later bytes untouched.

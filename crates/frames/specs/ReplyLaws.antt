@@ -4,25 +4,28 @@
 -- of digits, at least 2 and at most 512, all of them as they are written (`reply_frame`), so that it is one line
 -- (`reply_unbroken`); what a chain's reply is read back as (`reply_read`), and the largest part in it (`reply_largest`). What goes
 -- kind by kind is in ServedLaws. That replies lead to each other, as demand 2 asks, is in LineTrips; demand 3 is in BestLines.
+use Rattle.std.specs.Prelude.{Some, Result, Ok, Err}
 use Rattle.std.specs.Prelude.{◌≡◌, refl, true, List, ◌++◌, map, ℕ, ◌+◌, ◌^◌, ◌≤◌, ◌<◌, length, take}
 use Rattle.std.proofs.Common.{ap, ◌∙◌, arith}
-use Rattle.std.proofs.Math.Option.{some}
 use Rattle.chains.specs.Chains.{Part, ChainOf}
 use Rattle.chains.specs.Listing.{position}
 use Rattle.chains.proofs.Counts.{count_fits}
 use Rattle.chains.proofs.PositionsOfChains.{at_position_lem}
+use Rattle.refusals.specs.declared.Refusal.{Refusal}
 use Rattle.parts.specs.Parts.{part_number, largest_part}
 use Rattle.parts.proofs.Largest.{largest_of_chain}
 use Rattle.words.specs.RecordLaws.{InTable, judged_sum}
 use Rattle.words.specs.WordLaws.{chain_judged}
-use Rattle.lines.specs.Kinds.{Kind, kind_of}
-use Rattle.lines.specs.Lines.{field, Shape, unfit, fit, shape_of}
+use Rattle.lines.specs.Kinds.{kind_of}
+use Rattle.lines.specs.declared.Kind.{Kind}
+use Rattle.lines.specs.Lines.{field, shape_of}
 use Rattle.lines.proofs.LineLaws.{fit_line, reply_515}
 use Rattle.lines.specs.Stream.{unbroken}
 use Rattle.lines.proofs.StreamLaws.{digits_unbroken}
 use Rattle.frames.specs.ReplyDigits.{largest_at, chain_digits}
 use Rattle.frames.specs.ReadBack.{Fitting, ChainRead, chain_read}
 use Rattle.frames.specs.Replies.{served_with, digits_in, served, reply_by_shape, reply_to, reply_of}
+use Rattle.refusals.specs.Refusals.{number_of}
 use Rattle.frames.specs.ServedLaws.{Frame, refusal_frame, few_numbers, made}
 
 -- ---- a line's first 515 characters
@@ -34,21 +37,21 @@ first_515 line = reply_515 (λ s l. digits_in (reply_by_shape s l)) (λ r a b. r
 
 -- ---- a fit line is replied to as its kind
 
-pub reply_fit : (line : List ℕ) (k : Kind) → shape_of line ≡ fit k → reply_to line ≡ served k line
+pub reply_fit : (line : List ℕ) (k : Kind) → shape_of line ≡ Ok k → reply_to line ≡ served k line
 unfolding reply_to reply_by_shape
 reply_fit line k e = rw e
 
 -- A line that is served is fit, and of the kind that its first byte stands for.
-pub served_kind : (line ds : List ℕ) (k : Kind) → kind_of (field line 0 1) ≡ some k → reply_to line ≡ served_with ds
+pub served_kind : (line ds : List ℕ) (k : Kind) → kind_of (field line 0 1) ≡ Some k → reply_to line ≡ served_with ds
     → served k line ≡ served_with ds
 unfolding reply_to reply_by_shape
 served_kind line ds k first e = go (shape_of line) refl
   where
-    go : (s : Shape) → shape_of line ≡ s → served k line ≡ served_with ds
-    go (unfit r) g =
+    go : (s : Result Kind Refusal) → shape_of line ≡ s → served k line ≡ served_with ds
+    go (Err r) g =
         let z : ◌≡◌ {A = ℕ} 0 1 = cc (rw g at e) in
         absurd (omega arith)
-    go (fit j) g =
+    go (Ok j) g =
         let same : j ≡ k = cc (fit_line line j g).kind in
         rw same at (rw g at e)
 
@@ -58,9 +61,9 @@ pub reply_frame : (line : List ℕ) → Frame (reply_of line)
 unfolding reply_of reply_to reply_by_shape digits_in
 reply_frame line = go (shape_of line)
   where
-    go : (s : Shape) → Frame (digits_in (reply_by_shape s line))
-    go (unfit r) = refusal_frame r
-    go (fit k) = (made k line).framed
+    go : (s : Result Kind Refusal) → Frame (digits_in (reply_by_shape s line))
+    go (Err r) = refusal_frame (number_of r)
+    go (Ok k) = (made k line).framed
 
 -- So it fits into the bytes that are lent for it.
 pub reply_short : (line : List ℕ) → length (reply_of line) ≤ 514

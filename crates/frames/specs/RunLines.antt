@@ -3,6 +3,7 @@
 --
 -- In this order: served and refused (`run_served`, `run_refused`); a line made of values; every chain of n runs to n × x modulo m
 -- (`chain_run`), and so does every chain that another line's reply tells (`leads_run`).
+use Rattle.std.specs.Prelude.{Result, Ok, Err}
 use Rattle.std.specs.Prelude.{◌≡◌, ◌↔◌, ◌⊎◌, ℕ, ◌*◌, ◌%◌, ◌^◌, ◌≤◌, ◌<◌, length}
 use Rattle.std.proofs.Math.Path.{refl}
 use Rattle.std.proofs.Common.{ap, ◌∙◌, inl, inr, ⊎_elim, mod-lt, arith, length-append}
@@ -10,6 +11,9 @@ use Rattle.std.proofs.Math.Logic.Iff
 use Rattle.std.proofs.Math.Bool.{true}
 use mathlib.Core.List.{List, [], map, ◌++◌, append_assoc}
 use Rattle.chains.specs.Chains.{Part, Chained, total, ChainOf}
+use Rattle.refusals.specs.declared.Refusal.{Refusal}
+use Rattle.refusals.specs.declared.Refusal.TheVariants.{UnknownPart, NotChained, TooLarge, BadModulus, BadResidue, NoTreeWord, WrongExponents}
+use Rattle.refusals.specs.Refusals.{number_of}
 use Rattle.parts.specs.Parts.{part_number}
 use Rattle.words.specs.Records.{record_parts, Burned}
 use Rattle.words.specs.RecordLaws.{judged_sum}
@@ -17,12 +21,11 @@ use Rattle.words.specs.WordLaws.{chain_judged}
 use Rattle.words.specs.Refusals.{Outside}
 use Rattle.running.specs.Ran.{ran_of}
 use Rattle.running.proofs.RanLaws.{Modulus, ResidueBy, ran_residue, run_refusals}
-use Rattle.running.specs.declared.Ran.{Ran}
-use Rattle.running.specs.declared.Ran.TheVariants as ran
 use Rattle.digits.specs.Digits.{is_digit, every, digits_of}
 use Rattle.digits.proofs.DigitLaws.{every_append, length_digits, all_digits_digits}
-use Rattle.lines.specs.Kinds.{run_line, row_of}
-use Rattle.lines.specs.Lines.{field, items_in, fit, shape_of}
+use Rattle.lines.specs.Kinds.{row_of}
+use Rattle.lines.specs.declared.Kind.TheVariants.{Run as run_line}
+use Rattle.lines.specs.Lines.{field, items_in, shape_of}
 use Rattle.frames.specs.ReplyDigits.{single_digits, record_digits}
 use Rattle.frames.specs.ReadBack.{Fitting, field_after, field_first, single_read}
 use Rattle.frames.specs.Replies.{Reply, refused_as, served_with, ran_reply, modulus_in, residue_in, exponents_in, tells_largest, or_sixteen}
@@ -35,24 +38,24 @@ use Rattle.frames.specs.RecordLines.{LargestTold, Reaches16, Named, empty_named,
 -- ---- served and refused
 
 -- A reply tells the run's answer.
-told_residue : (a : Ran) (ds : List ℕ) → (ran_reply a ≡ served_with ds) ↔ ((r : ℕ) × (a ≡ ran.Residue r) × (ds ≡ single_digits r))
+told_residue : (a : Result ℕ Refusal) (ds : List ℕ) → (ran_reply a ≡ served_with ds) ↔ ((r : ℕ) × (a ≡ Ok r) × (ds ≡ single_digits r))
 unfolding ran_reply
-told_residue (ran.Residue r) ds = (
+told_residue (Ok r) ds = (
   λ e. (r, refl, cc),
   λ h. let same : r ≡ h.0 = cc h.1 in rw (same, h.2),
 )
-told_residue (ran.Refused q) ds = (
+told_residue (Err q) ds = (
   λ e. let z : ◌≡◌ {A = ℕ} 0 1 = cc in absurd (omega arith),
   λ h. let f = h.1 in let z : ◌≡◌ {A = ℕ} 0 1 = cc in absurd (omega arith),
 )
 
-told_refused : (a : Ran) (r : ℕ) → (ran_reply a ≡ refused_as r) ↔ (a ≡ ran.Refused r)
+told_refused : (a : Result ℕ Refusal) (r : Refusal) → (ran_reply a ≡ refused_as r) ↔ (a ≡ Err r)
 unfolding ran_reply
-told_refused (ran.Residue x) r = (
+told_refused (Ok x) r = (
   λ e. let z : ◌≡◌ {A = ℕ} 0 1 = cc in absurd (omega arith),
   λ e. let z : ◌≡◌ {A = ℕ} 0 1 = cc in absurd (omega arith),
 )
-told_refused (ran.Refused q) r = (λ e. cc, λ e. cc)
+told_refused (Err q) r = (λ e. cc, λ e. cc)
 
 -- The residue of the chain that the numbers l name, and its digits.
 pub record RunReply (l : List ℕ) (m x : ℕ) (ds : List ℕ) : Type 0 where
@@ -62,16 +65,16 @@ pub record RunReply (l : List ℕ) (m x : ℕ) (ds : List ℕ) : Type 0 where
   pub digits : ds ≡ single_digits (n * x % m)
 
 -- The refusals, as in RecordLines: those of the run, then 16.
-pub record RunLineRefusals (l : List ℕ) (m x : ℕ) (told : Type 0) (refused : ℕ → Type 0) : Type 0 where
-  pub refusal_13 : refused 13 ↔ (¬ Modulus m)
-  pub refusal_14 : refused 14 ↔ (Modulus m × (m ≤ x))
-  pub refusal_8 : refused 8 ↔ (ResidueBy m x × Outside l)
-  pub refusal_9 : refused 9 ↔ (ResidueBy m x × ((¬ Outside l) × (¬ Chained (record_parts l))))
-  pub refusal_10 : refused 10 ↔ (ResidueBy m x × ((¬ Outside l) × Chained (record_parts l) × (2 ^ 64 ≤ total (record_parts l))))
-  pub refusal_16 : refused 16 ↔ (ResidueBy m x × (Named l × (¬ told)))
-  pub no_other : (r : ℕ) → refused r → (r ≡ 16) ⊎ ((r ≡ 13) ⊎ ((r ≡ 14) ⊎ ((r ≡ 8) ⊎ ((r ≡ 9) ⊎ (r ≡ 10)))))
+pub record RunLineRefusals (l : List ℕ) (m x : ℕ) (told : Type 0) (refused : Refusal → Type 0) : Type 0 where
+  pub refusal_13 : refused BadModulus ↔ (¬ Modulus m)
+  pub refusal_14 : refused BadResidue ↔ (Modulus m × (m ≤ x))
+  pub refusal_8 : refused UnknownPart ↔ (ResidueBy m x × Outside l)
+  pub refusal_9 : refused NotChained ↔ (ResidueBy m x × ((¬ Outside l) × (¬ Chained (record_parts l))))
+  pub refusal_10 : refused TooLarge ↔ (ResidueBy m x × ((¬ Outside l) × Chained (record_parts l) × (2 ^ 64 ≤ total (record_parts l))))
+  pub refusal_16 : refused WrongExponents ↔ (ResidueBy m x × (Named l × (¬ told)))
+  pub no_other : (r : Refusal) → refused r → (r ≡ WrongExponents) ⊎ ((r ≡ BadModulus) ⊎ ((r ≡ BadResidue) ⊎ ((r ≡ UnknownPart) ⊎ ((r ≡ NotChained) ⊎ (r ≡ TooLarge)))))
 
-module _ (line : List ℕ) (f : shape_of line ≡ fit run_line) where
+module _ (line : List ℕ) (f : shape_of line ≡ Ok run_line) where
   abbrev m : ℕ
   m = modulus_in line
 
@@ -106,42 +109,42 @@ module _ (line : List ℕ) (f : shape_of line ≡ fit run_line) where
   pub run_served : (ds : List ℕ) → (reply_to line ≡ served_with ds) ↔ (LargestTold run_line line × RunReply numbers m x ds)
   run_served ds = Iff.trans (line_served run_line line plain reply ds) (Iff.and Iff.rfl (run_told ds))
 
-  only : (r : ℕ) → plain ≡ refused_as r → (r ≡ 13) ⊎ ((r ≡ 14) ⊎ ((r ≡ 8) ⊎ ((r ≡ 9) ⊎ (r ≡ 10))))
+  only : (r : Refusal) → plain ≡ refused_as r → (r ≡ BadModulus) ⊎ ((r ≡ BadResidue) ⊎ ((r ≡ UnknownPart) ⊎ ((r ≡ NotChained) ⊎ (r ≡ TooLarge))))
   only r e = (run_refusals numbers m x).no_other r ((told_refused (ran_of numbers m x) r).0 e)
 
-  none_else : (r : ℕ) → 14 < r → ¬ (plain ≡ refused_as r)
+  none_else : (r : Refusal) → 14 < number_of r → ¬ (plain ≡ refused_as r)
   none_else r h e =
-      ⊎_elim (λ (g : r ≡ 13). omega arith)
-      (⊎_elim (λ (g : r ≡ 14). omega arith)
-      (⊎_elim (λ (g : r ≡ 8). omega arith) (⊎_elim (λ (g : r ≡ 9). omega arith) (λ (g : r ≡ 10). omega arith)))) (only r e)
+      ⊎_elim (λ (g : r ≡ BadModulus). omega (arith, ap number_of g))
+      (⊎_elim (λ (g : r ≡ BadResidue). omega (arith, ap number_of g))
+      (⊎_elim (λ (g : r ≡ UnknownPart). omega (arith, ap number_of g)) (⊎_elim (λ (g : r ≡ NotChained). omega (arith, ap number_of g)) (λ (g : r ≡ TooLarge). omega (arith, ap number_of g))))) (only r e)
 
   named : Reaches16 plain ↔ (ResidueBy m x × Named numbers)
   named = (
     ⊎_elim (λ (s : (ds : List ℕ) × (plain ≡ served_with ds)). let t = (run_told s.0).0 s.1 in (t.able, (t.n, t.burned)))
-        (λ (e : plain ≡ refused_as 15). absurd (none_else 15 (omega arith) e)),
+        (λ (e : plain ≡ refused_as NoTreeWord). absurd (none_else NoTreeWord (omega arith) e)),
     λ h. inl (_, (run_told _).1 (record { able = h.0; n = h.1.0; burned = h.1.1; digits = refl })),
   )
 
-  before : (r : ℕ) → r < 15 → {P : Type 0} → (ran_of numbers m x ≡ ran.Refused r) ↔ P → (reply_to line ≡ refused_as r) ↔ P
+  before : (r : Refusal) → number_of r < 15 → {P : Type 0} → (ran_of numbers m x ≡ Err r) ↔ P → (reply_to line ≡ refused_as r) ↔ P
   before r h p = Iff.trans (line_before run_line line plain reply r h) (Iff.trans (told_refused (ran_of numbers m x) r) p)
 
   pub run_refused : RunLineRefusals numbers m x (LargestTold run_line line) (λ r. reply_to line ≡ refused_as r)
   run_refused =
       let run = run_refusals numbers m x in
       record {
-        refusal_13 = before 13 (omega arith) run.refusal_13;
-        refusal_14 = before 14 (omega arith) run.refusal_14;
-        refusal_8 = before 8 (omega arith) run.refusal_8;
-        refusal_9 = before 9 (omega arith) run.refusal_9;
-        refusal_10 = before 10 (omega arith) run.refusal_10;
-        refusal_16 = Iff.trans (line_sixteen run_line line plain reply (none_else 16 (omega arith)))
+        refusal_13 = before BadModulus (omega arith) run.refusal_13;
+        refusal_14 = before BadResidue (omega arith) run.refusal_14;
+        refusal_8 = before UnknownPart (omega arith) run.refusal_8;
+        refusal_9 = before NotChained (omega arith) run.refusal_9;
+        refusal_10 = before TooLarge (omega arith) run.refusal_10;
+        refusal_16 = Iff.trans (line_sixteen run_line line plain reply (none_else WrongExponents (omega arith)))
             (Iff.trans (Iff.and named Iff.rfl) (λ h. (h.0.0, (h.0.1, h.1)), λ h. ((h.0, h.1.0), h.1.1)));
         no_other = λ r e.
-            ⊎_elim (λ (g : plain ≡ refused_as r). inr (only r g)) (λ (g : r ≡ 16). inl g) (line_only run_line line plain reply r e);
+            ⊎_elim (λ (g : plain ≡ refused_as r). inr (only r g)) (λ (g : r ≡ WrongExponents). inl g) (line_only run_line line plain reply r e);
       }
 
   -- No numbers, and other bytes than 0 and 0.
-  pub empty_run : ResidueBy m x → numbers ≡ [] → ¬ (exponents_in run_line line ≡ record { a = 0; b = 0 }) → reply_to line ≡ refused_as 16
+  pub empty_run : ResidueBy m x → numbers ≡ [] → ¬ (exponents_in run_line line ≡ record { a = 0; b = 0 }) → reply_to line ≡ refused_as WrongExponents
   empty_run able e n = run_refused.refusal_16.1 (able, (rw e empty_named, λ t. n ((empty_told run_line line e).0 t)))
 
 -- ---- a line made of values

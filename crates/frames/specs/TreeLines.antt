@@ -5,17 +5,20 @@
 -- In this order: served and refused (`tree_served`, `tree_refused`, `to_tree_served`, `to_tree_refused`); lines made of values;
 -- every chain of n (`chain_to_tree`, `tree_to_chain`), also the chain that another line's reply tells (`leads_trees`); from the
 -- reply to any line of one of the two kinds to a line of the other and back (`tree_then_to_tree`, `to_tree_then_tree`).
+use Rattle.std.specs.Prelude.{Some, Ok}
 use Rattle.std.proofs.Math.Path.{◌≡◌, refl, sym, ap}
 use Rattle.std.proofs.Common.{◌∙◌, inl, inr, arith}
 use Rattle.std.specs.Prelude.{◌↔◌, ◌⊎◌, ℕ, zero, suc, ◌^◌, ◌≤◌, ◌<◌, length}
 use Rattle.std.proofs.Math.Logic.{⊎_elim}
 use Rattle.std.proofs.Math.Logic.Iff
 use mathlib.Core.List.{List, [], map, append-nil}
-use Rattle.std.proofs.Math.Option.{some}
 use Rattle.chains.specs.Chains.{Part, Chained, total, ChainOf}
 use Rattle.chains.specs.Words.{Word, word_of}
 use Rattle.chains.specs.Listing.{position}
 use Rattle.chains.proofs.Bounds.{chain_of_0}
+use Rattle.refusals.specs.declared.Refusal.{Refusal}
+use Rattle.refusals.specs.declared.Refusal.TheVariants.{UnknownPart, NotChained, TooLarge, NoTreeWord, WrongExponents}
+use Rattle.refusals.specs.Refusals.{number_of}
 use Rattle.parts.specs.Parts.{part_number}
 use Rattle.words.specs.Records.{record_parts, judged_of}
 use Rattle.words.specs.RecordLaws.{in_table, judged_sum}
@@ -27,8 +30,9 @@ use Rattle.trees.specs.Answers.{of_tree, TreeWord, no_tree, tree_word, record_tr
 use Rattle.trees.proofs.AnswerLaws.{tree_gives, TreeRefusals, tree_lifted, tree_refusals, record_tree_lem, record_tree_refusals}
 use Rattle.trees.proofs.AnswerLaws.{chain_tree_written, chain_tree_read, tree_short, tree_low}
 use Rattle.digits.specs.Digits.{every}
-use Rattle.lines.specs.Kinds.{tree_line, to_tree_line, row_of, kind_of}
-use Rattle.lines.specs.Lines.{field, fields, items_in, fit, shape_of}
+use Rattle.lines.specs.Kinds.{row_of, kind_of}
+use Rattle.lines.specs.declared.Kind.TheVariants.{Tree as tree_line, ToTree as to_tree_line}
+use Rattle.lines.specs.Lines.{field, fields, items_in, shape_of}
 use Rattle.frames.specs.ReplyDigits.{record_digits, record_at, numbers_at, chain_digits, letters_digits, letters_count_at, letters_at}
 use Rattle.frames.specs.ReadBack.{Fitting, ChainRead, letters_read}
 use Rattle.frames.specs.Replies.{Reply, refused_as, served_with, chain_reply, letters_reply, exponents_in, tells_largest, or_sixteen}
@@ -102,7 +106,7 @@ module _ (l : List ℕ) where
           let of : SomeChain = record { n = n; chain = c; sums = sums; above = above; fits = fits } in
           record { of = of; numbers = numbers; digits = rw word at told }
 
-  letters_refused : (r : ℕ) → (letters_reply (record_tree l) ≡ refused_as r) ↔ (record_tree l ≡ no_tree r)
+  letters_refused : (r : Refusal) → (letters_reply (record_tree l) ≡ refused_as r) ↔ (record_tree l ≡ no_tree r)
   unfolding letters_reply
   letters_refused r = go (record_tree l)
     where
@@ -114,7 +118,7 @@ module _ (l : List ℕ) where
       )
 
 -- A fit line of kind 08.
-module _ (line : List ℕ) (f : shape_of line ≡ fit tree_line) where
+module _ (line : List ℕ) (f : shape_of line ≡ Ok tree_line) where
   tree_reply : reply_to line ≡ chain_reply (of_tree (items_in tree_line line))
   unfolding served
   tree_reply = reply_fit line tree_line f
@@ -132,16 +136,16 @@ zero_or_more zero = inl refl
 zero_or_more (suc n) = inr (omega arith)
 
 -- The refusals, as in RecordLines: those of the record, then 16, then 15.
-pub record ToTreeLineRefusals (l : List ℕ) (told : Type 0) (refused : ℕ → Type 0) : Type 0 where
-  pub refusal_8 : refused 8 ↔ Outside l
-  pub refusal_9 : refused 9 ↔ ((¬ Outside l) × (¬ Chained (record_parts l)))
-  pub refusal_10 : refused 10 ↔ ((¬ Outside l) × Chained (record_parts l) × (2 ^ 64 ≤ total (record_parts l)))
-  pub refusal_16 : refused 16 ↔ (Named l × (¬ told))
-  pub refusal_15 : refused 15 ↔ (told × (l ≡ []))
-  pub no_other : (r : ℕ) → refused r → (r ≡ 16) ⊎ ((r ≡ 8) ⊎ ((r ≡ 9) ⊎ ((r ≡ 10) ⊎ (r ≡ 15))))
+pub record ToTreeLineRefusals (l : List ℕ) (told : Type 0) (refused : Refusal → Type 0) : Type 0 where
+  pub refusal_8 : refused UnknownPart ↔ Outside l
+  pub refusal_9 : refused NotChained ↔ ((¬ Outside l) × (¬ Chained (record_parts l)))
+  pub refusal_10 : refused TooLarge ↔ ((¬ Outside l) × Chained (record_parts l) × (2 ^ 64 ≤ total (record_parts l)))
+  pub refusal_16 : refused WrongExponents ↔ (Named l × (¬ told))
+  pub refusal_15 : refused NoTreeWord ↔ (told × (l ≡ []))
+  pub no_other : (r : Refusal) → refused r → (r ≡ WrongExponents) ⊎ ((r ≡ UnknownPart) ⊎ ((r ≡ NotChained) ⊎ ((r ≡ TooLarge) ⊎ (r ≡ NoTreeWord))))
 
 -- A fit line of kind 09.
-module _ (line : List ℕ) (f : shape_of line ≡ fit to_tree_line) where
+module _ (line : List ℕ) (f : shape_of line ≡ Ok to_tree_line) where
   abbrev numbers : List ℕ
   numbers = items_in to_tree_line line
 
@@ -157,13 +161,13 @@ module _ (line : List ℕ) (f : shape_of line ≡ fit to_tree_line) where
   to_tree_served ds =
       Iff.trans (line_served to_tree_line line plain to_tree_reply ds) (Iff.and Iff.rfl (letters_served numbers ds))
 
-  only : (r : ℕ) → plain ≡ refused_as r → (r ≡ 8) ⊎ ((r ≡ 9) ⊎ ((r ≡ 10) ⊎ (r ≡ 15)))
+  only : (r : Refusal) → plain ≡ refused_as r → (r ≡ UnknownPart) ⊎ ((r ≡ NotChained) ⊎ ((r ≡ TooLarge) ⊎ (r ≡ NoTreeWord)))
   only r e = (record_tree_refusals numbers).no_other r ((letters_refused numbers r).0 e)
 
-  not_16 : ¬ (plain ≡ refused_as 16)
+  not_16 : ¬ (plain ≡ refused_as WrongExponents)
   not_16 e =
-      ⊎_elim (λ (g : 16 ≡ 8). omega arith)
-      (⊎_elim (λ (g : 16 ≡ 9). omega arith) (⊎_elim (λ (g : 16 ≡ 10). omega arith) (λ (g : 16 ≡ 15). omega arith))) (only 16 e)
+      ⊎_elim (λ (g : WrongExponents ≡ UnknownPart). omega (arith, ap number_of g))
+      (⊎_elim (λ (g : WrongExponents ≡ NotChained). omega (arith, ap number_of g)) (⊎_elim (λ (g : WrongExponents ≡ TooLarge). omega (arith, ap number_of g)) (λ (g : WrongExponents ≡ NoTreeWord). omega (arith, ap number_of g)))) (only WrongExponents e)
 
   named : Reaches16 plain ↔ Named numbers
   unfolding total
@@ -176,40 +180,40 @@ module _ (line : List ℕ) (f : shape_of line ≡ fit to_tree_line) where
           let t = (letters_served numbers s.0).0 s.1 in
           let c = t.of in
           (c.n, (judged_sum numbers c.n).0 (ap judged_of t.numbers ∙ chain_judged c.n c.chain c.sums c.fits)))
-          (λ (e : plain ≡ refused_as 15).
-          let none_there = (record_tree_refusals numbers).refusal_15.0 ((letters_refused numbers 15).0 e) in
+          (λ (e : plain ≡ refused_as NoTreeWord).
+          let none_there = (record_tree_refusals numbers).refusal_15.0 ((letters_refused numbers NoTreeWord).0 e) in
           rw none_there empty_named)
 
       back : Named numbers → Reaches16 plain
       back (n, b) =
           let same = numbers_of_parts numbers ((in_table numbers).1 b.known) in
-          ⊎_elim (λ (z : n ≡ 0). inr ((letters_refused numbers 15).1 ((record_tree_refusals numbers).refusal_15.1
+          ⊎_elim (λ (z : n ≡ 0). inr ((letters_refused numbers NoTreeWord).1 ((record_tree_refusals numbers).refusal_15.1
           (sym same ∙ ap (map part_number) ((chain_of_0 (record_parts numbers)).0 (rw z at b.chain))))))
           (λ (l : 1 ≤ n).
           let of : SomeChain = record { n = n; chain = record_parts numbers; sums = b.chain; above = l; fits = b.fits } in
           inl (_, (letters_served numbers _).1 (record { of = of; numbers = sym same; digits = refl })))
           (zero_or_more n)
 
-  before : (r : ℕ) → r < 15 → {P : Type 0} → (record_tree numbers ≡ no_tree r) ↔ P → (reply_to line ≡ refused_as r) ↔ P
+  before : (r : Refusal) → number_of r < 15 → {P : Type 0} → (record_tree numbers ≡ no_tree r) ↔ P → (reply_to line ≡ refused_as r) ↔ P
   before r h p = Iff.trans (line_before to_tree_line line plain to_tree_reply r h) (Iff.trans (letters_refused numbers r) p)
 
   pub to_tree_refused : ToTreeLineRefusals numbers (LargestTold to_tree_line line) (λ r. reply_to line ≡ refused_as r)
   to_tree_refused =
       let tree = record_tree_refusals numbers in
       record {
-        refusal_8 = before 8 (omega arith) tree.refusal_8;
-        refusal_9 = before 9 (omega arith) tree.refusal_9;
-        refusal_10 = before 10 (omega arith) tree.refusal_10;
+        refusal_8 = before UnknownPart (omega arith) tree.refusal_8;
+        refusal_9 = before NotChained (omega arith) tree.refusal_9;
+        refusal_10 = before TooLarge (omega arith) tree.refusal_10;
         refusal_16 = Iff.trans (line_sixteen to_tree_line line plain to_tree_reply not_16) (Iff.and named Iff.rfl);
         refusal_15 = Iff.trans (line_fifteen to_tree_line line plain to_tree_reply)
-            (Iff.and Iff.rfl (Iff.trans (letters_refused numbers 15) tree.refusal_15));
+            (Iff.and Iff.rfl (Iff.trans (letters_refused numbers NoTreeWord) tree.refusal_15));
         no_other = λ r e.
-            ⊎_elim (λ (g : plain ≡ refused_as r). inr (only r g)) (λ (g : r ≡ 16). inl g)
+            ⊎_elim (λ (g : plain ≡ refused_as r). inr (only r g)) (λ (g : r ≡ WrongExponents). inl g)
             (line_only to_tree_line line plain to_tree_reply r e);
       }
 
   -- No numbers, and other bytes than 0 and 0.
-  pub empty_to_tree : numbers ≡ [] → ¬ (exponents_in to_tree_line line ≡ record { a = 0; b = 0 }) → reply_to line ≡ refused_as 16
+  pub empty_to_tree : numbers ≡ [] → ¬ (exponents_in to_tree_line line ≡ record { a = 0; b = 0 }) → reply_to line ≡ refused_as WrongExponents
   empty_to_tree e n = to_tree_refused.refusal_16.1 (rw e empty_named, λ t. n ((empty_told to_tree_line line e).0 t))
 
 -- ---- lines made of values
@@ -327,7 +331,7 @@ module _ (n : ℕ) (c : List Part) (chain : ChainOf n c) (above : 1 ≤ n) (fits
       }
 
 -- Any line of kind 08 that is served, and any line of kind 09 that is served.
-pub tree_then_to_tree : (line ds : List ℕ) → kind_of (field line 0 1) ≡ some tree_line → reply_to line ≡ served_with ds
+pub tree_then_to_tree : (line ds : List ℕ) → kind_of (field line 0 1) ≡ Some tree_line → reply_to line ≡ served_with ds
     → WordBack (items_in tree_line line) ds
 unfolding served
 tree_then_to_tree line ds first e =
@@ -335,7 +339,7 @@ tree_then_to_tree line ds first e =
     let c = t.of in
     rw (← t.word, ← t.digits) at (word_back c.n c.chain c.sums c.above c.fits)
 
-pub to_tree_then_tree : (line ds : List ℕ) → kind_of (field line 0 1) ≡ some to_tree_line → reply_to line ≡ served_with ds
+pub to_tree_then_tree : (line ds : List ℕ) → kind_of (field line 0 1) ≡ Some to_tree_line → reply_to line ≡ served_with ds
     → RecordBack (items_in to_tree_line line) ds
 unfolding served
 to_tree_then_tree line ds first e =

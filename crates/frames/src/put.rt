@@ -1,19 +1,21 @@
 // The digits of a reply, written one after the other into the bytes that are lent for it: document 01, 'Frames', and document 02,
-// T-05 and T-06. At least 514 bytes are lent, and every reply fits into them (`reply_short`).
+// T-05 and T-06. They are 514, and every reply fits into them (`reply_short`).
 ghost use Rattle.std.specs.Prelude.{◌≡◌, ◌+◌, ◌-◌, ◌*◌, ◌≤◌, length};
 ghost use Rattle.digits.specs.Digits.{digits_of};
 ghost use Rattle.lent.specs.Lent.{zeros};
 ghost use Rattle.frames.specs.Put.{put_at};
 ghost use Rattle.words.specs.Walks.{point};
+ghost use Rattle.refusals.specs.Refusals.{number_of};
 ghost use Rattle.parts.specs.Parts.{largest_of};
 ghost use Rattle.frames.specs.ReplyDigits.{single_digits, values_digits, numbers_digits, record_digits, head_digits};
 ghost use Rattle.frames.specs.ReplyDigits.{chain_digits, letters_digits};
 
 use parts::Exponents;
+use refusals::Refusal;
 
 // The last k digits of n, after the first `at` bytes. Where the next digits go is told, here and below.
-fn put_at(out: &mut [u8], at: usize, k: usize, n: u64) -> usize
-    requires { at + k ≤ length out.old }
+fn put_at(out: &mut [u8; 514], at: usize, k: usize, n: u64) -> usize
+    requires { at + k ≤ 514 }
     ensures value { result ≡ at + k }
     ensures out_after { out.new ≡ put_at at (digits_of k n) out.old }
 {
@@ -22,17 +24,15 @@ fn put_at(out: &mut [u8], at: usize, k: usize, n: u64) -> usize
 }
 
 // A refusal's number as one byte.
-pub fn put_refusal(out: &mut [u8], r: u8) -> usize
-    requires { 514 ≤ length out.old }
+pub fn put_refusal(out: &mut [u8; 514], refusal: Refusal) -> usize
     ensures value { result ≡ 2 }
-    ensures out_after { out.new ≡ put_at 0 (digits_of 2 r) out.old }
+    ensures out_after { out.new ≡ put_at 0 (digits_of 2 (number_of refusal)) out.old }
 {
-    put_at(out, 0, 2, r as u64)
+    put_at(out, 0, 2, u64::from(u8::from(refusal)))
 }
 
 // 00 and a single number.
-pub fn put_single(out: &mut [u8], x: u64) -> usize
-    requires { 514 ≤ length out.old }
+pub fn put_single(out: &mut [u8; 514], x: u64) -> usize
     ensures value { result ≡ length (single_digits x) }
     ensures out_after { out.new ≡ put_at 0 (single_digits x) out.old }
 {
@@ -41,8 +41,7 @@ pub fn put_single(out: &mut [u8], x: u64) -> usize
 }
 
 // What stands before a record: 00, n and the position.
-fn put_head(out: &mut [u8], n: u64, position: u64) -> usize
-    requires { 514 ≤ length out.old }
+fn put_head(out: &mut [u8; 514], n: u64, position: u64) -> usize
     ensures value { result ≡ length (head_digits n position) }
     ensures out_after { out.new ≡ put_at 0 (head_digits n position) out.old }
 {
@@ -52,23 +51,21 @@ fn put_head(out: &mut [u8], n: u64, position: u64) -> usize
 }
 
 // The part numbers, two bytes each, after the first `at` bytes.
-fn put_numbers(out: &mut [u8], at: usize, numbers: &[u16]) -> usize
-    requires { at + 4 * length numbers.now ≤ length out.old }
+fn put_numbers(out: &mut [u8; 514], at: usize, numbers: &[u16]) -> usize
+    requires { at + 4 * length numbers.now ≤ 514 }
     ensures value { result ≡ at + length (numbers_digits numbers.now) }
     ensures out_after { out.new ≡ put_at at (numbers_digits numbers.now) out.old }
 {
     let mut end = at;
-    let mut i = 0;
-    while i < numbers.len() {
-        end = put_at(out, end, 4, numbers[i] as u64);
-        i += 1;
+    for number in numbers {
+        end = put_at(out, end, 4, u64::from(*number));
     }
     end
 }
 
 // A record after the first `at` bytes: how many parts it has, a and b of the largest, their numbers.
-fn put_record(out: &mut [u8], at: usize, largest: Exponents, numbers: &[u16]) -> usize
-    requires { (at + 6 + 4 * length numbers.now ≤ length out.old) × (point largest ≡ largest_of numbers.now) }
+fn put_record(out: &mut [u8; 514], at: usize, largest: Exponents, numbers: &[u16]) -> usize
+    requires { (at + 6 + 4 * length numbers.now ≤ 514) × (point largest ≡ largest_of numbers.now) }
     ensures value { result ≡ at + length (record_digits numbers.now) }
     ensures out_after { out.new ≡ put_at at (record_digits numbers.now) out.old }
 {
@@ -80,13 +77,13 @@ fn put_record(out: &mut [u8], at: usize, largest: Exponents, numbers: &[u16]) ->
 
 // A chain: 00, n, its position, its record.
 pub fn put_chain(
-    out: &mut [u8],
+    out: &mut [u8; 514],
     n: u64,
     position: u64,
     largest: Exponents,
     numbers: &[u16],
 ) -> usize
-    requires { (514 ≤ length out.old) × (length numbers.now ≤ 64) × (point largest ≡ largest_of numbers.now) }
+    requires { (length numbers.now ≤ 64) × (point largest ≡ largest_of numbers.now) }
     ensures value { result ≡ length (chain_digits n position numbers.now) }
     ensures out_after { out.new ≡ put_at 0 (chain_digits n position numbers.now) out.old }
 {
@@ -95,8 +92,8 @@ pub fn put_chain(
 }
 
 // The price after a chain, which ends before `at`.
-pub fn put_price(out: &mut [u8], at: usize, price: u64) -> usize
-    requires { (514 ≤ length out.old) × (at + 8 ≤ 514) }
+pub fn put_price(out: &mut [u8; 514], at: usize, price: u64) -> usize
+    requires { at + 8 ≤ 514 }
     ensures value { result ≡ at + 8 }
     ensures out_after { out.new ≡ put_at at (digits_of 8 price) out.old }
 {
@@ -104,23 +101,21 @@ pub fn put_price(out: &mut [u8], at: usize, price: u64) -> usize
 }
 
 // Letters, one byte each, after the first `at` bytes.
-fn put_bytes(out: &mut [u8], at: usize, letters: &[u8]) -> usize
-    requires { at + 2 * length letters.now ≤ length out.old }
+fn put_bytes(out: &mut [u8; 514], at: usize, letters: &[u8]) -> usize
+    requires { at + 2 * length letters.now ≤ 514 }
     ensures value { result ≡ at + length (values_digits 1 letters.now) }
     ensures out_after { out.new ≡ put_at at (values_digits 1 letters.now) out.old }
 {
     let mut end = at;
-    let mut i = 0;
-    while i < letters.len() {
-        end = put_at(out, end, 2, letters[i] as u64);
-        i += 1;
+    for letter in letters {
+        end = put_at(out, end, 2, u64::from(*letter));
     }
     end
 }
 
 // The letters of a tree word: 00, how many there are, then the letters.
-pub fn put_letters(out: &mut [u8], letters: &[u8]) -> usize
-    requires { (514 ≤ length out.old) × (length letters.now ≤ 255) }
+pub fn put_letters(out: &mut [u8; 514], letters: &[u8]) -> usize
+    requires { length letters.now ≤ 255 }
     ensures value { result ≡ length (letters_digits letters.now) }
     ensures out_after { out.new ≡ put_at 0 (letters_digits letters.now) out.old }
 {
@@ -130,9 +125,9 @@ pub fn put_letters(out: &mut [u8], letters: &[u8]) -> usize
 }
 
 // Zeros from `at` up to 514.
-pub fn fill(out: &mut [u8], at: usize)
-    requires { (514 ≤ length out.old) × (at ≤ 514) }
+pub fn fill(out: &mut [u8; 514], at: usize)
+    requires { at ≤ 514 }
     ensures { out.new ≡ put_at at (zeros (514 - at)) out.old }
 {
-    lent::clear_u8(&mut out[at..514]);
+    out[at..].fill(0);
 }

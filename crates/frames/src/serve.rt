@@ -1,9 +1,10 @@
-// Fit lines, kind by kind: what the line asks for is read, the service called, and its answer told.
+// Fit lines, kind by kind: what the line asks for is read, the service called, and its answer told. Items and part numbers stand in
+// arrays, used up to a length, since the project has no heap: a line has at most 255 items, and a chain at most 64 parts.
 ghost use Rattle.std.specs.Prelude.{◌≡◌, ◌≤◌, length};
 ghost use Rattle.chains.specs.Best.{price};
 ghost use Rattle.parts.specs.Parts.{largest_of, same_part};
 ghost use Rattle.words.specs.Walks.{point};
-ghost use Rattle.lent.specs.Lent.{too_little, Enough, scratch_left};
+ghost use Rattle.lent.specs.Lent.{too_little, scratch_left};
 ghost use Rattle.ranking.specs.Services.{lent, places_left};
 ghost use Rattle.best.specs.Chosen.{limits_of, prices_of, best_outcome, best_of};
 ghost use Rattle.trees.specs.Answers.{record_tree};
@@ -11,38 +12,41 @@ ghost use Rattle.running.specs.Ran.{ran_of};
 ghost use Rattle.frames.specs.Calls.{Told, Handled, FitAs, read_only};
 ghost use Rattle.frames.specs.Replies.{refused_as, ran_reply, letters_reply, limits_in, prices_in, modulus_in, residue_in};
 ghost use Rattle.frames.specs.Replies.{exponents_from, exponents_in, or_sixteen, served, reply_to};
-ghost use Rattle.lines.specs.Kinds.{count_line, best_line, at_line, record_line, word_line, next_line, run_line};
-ghost use Rattle.lines.specs.Kinds.{tree_line, to_tree_line};
+ghost use Rattle.lines.specs.declared.Kind.TheVariants.{Count as count_line, Best as best_line, At as at_line, Record as record_line, Word as word_line, Next as next_line, Run as run_line};
+ghost use Rattle.lines.specs.declared.Kind.TheVariants.{Tree as tree_line, ToTree as to_tree_line};
 ghost use Rattle.lines.specs.Lines.{Fit, read_items, items_left};
 
-use super::{Replied, tell};
+use super::tell;
 use best::{Best, Limits, Prices};
-use counting::Counted;
-use lines::Items;
+use lines::Kind;
 use parts::Exponents;
-use ranking::Placed;
-use running::Ran;
-use words::Written;
+use refusals::Refusal;
 
 // A line that is refused: the scratch is zeroed as on success.
-pub fn serve_refusal(number: u8, scratch: &mut [u64], out: &mut [u8]) -> Replied
-    requires { Enough 514 scratch.old out.old }
-    ensures { Handled (refused_as number) result
+pub fn serve_refusal(
+    refusal: Refusal,
+    scratch: &mut [u64; lent::SCRATCH],
+    out: &mut [u8; 514],
+) -> Result<u64, Refusal>
+    ensures { Handled (refused_as refusal) result
         scratch.old scratch.new out.old out.new }
 {
     lent::clear_scratch(scratch);
-    tell::tell_refusal(out, number)
+    tell::tell_refusal(out, refusal)
 }
 
 // 01: the count.
-pub fn serve_count(line: &[u8], scratch: &mut [u64], out: &mut [u8]) -> Replied
-    requires { Enough 514 scratch.old out.old }
+pub fn serve_count(
+    line: &[u8],
+    scratch: &mut [u64; lent::SCRATCH],
+    out: &mut [u8; 514],
+) -> Result<u64, Refusal>
     ensures { Handled (served count_line line.now) result
         scratch.old scratch.new out.old out.new }
 {
     match counting::table_count(lines::field_of(line, 1, 8), scratch) {
-        Counted::Count(count) => tell::tell_single(out, count),
-        Counted::Refused(number) => tell::tell_refusal(out, number),
+        Ok(count) => tell::tell_single(out, count),
+        Err(refusal) => tell::tell_refusal(out, refusal),
     }
 }
 
@@ -72,7 +76,7 @@ fn prices_in(line: &[u8]) -> Prices
 }
 
 // The best chain of n, by the limits and prices of a line of kind 02.
-fn best_in(n: u64, line: &[u8], scratch: &mut [u64], places: &mut [u16]) -> Best
+fn best_in(n: u64, line: &[u8], scratch: &mut [u64], places: &mut [u16]) -> Result<Best, Refusal>
     requires { Fit line.now best_line }
     ensures value { result
         ≡ best_of (price (prices_in line.now))
@@ -90,25 +94,32 @@ fn best_in(n: u64, line: &[u8], scratch: &mut [u64], places: &mut [u16]) -> Best
 }
 
 // 02: the best chain.
-pub fn serve_best(line: &[u8], scratch: &mut [u64], out: &mut [u8]) -> Replied
-    requires { Enough 514 scratch.old out.old × Fit line.now best_line }
+pub fn serve_best(
+    line: &[u8],
+    scratch: &mut [u64; lent::SCRATCH],
+    out: &mut [u8; 514],
+) -> Result<u64, Refusal>
+    requires { Fit line.now best_line }
     ensures { Handled (served best_line line.now) result
         scratch.old scratch.new out.old out.new }
 {
     let n = lines::field_of(line, 1, 8);
     let mut places = [0u16; 64];
     match best_in(n, line, scratch, &mut places) {
-        Best::Chain { position, k, price } => {
-            let end = k as usize;
-            tell::tell_priced(out, n, position, &places[0..end], price)
+        Ok(best) => {
+            let numbers = &places[0..best.k as usize];
+            tell::tell_priced(out, n, best.position, numbers, best.price)
         }
-        Best::Refused(number) => tell::tell_refusal(out, number),
+        Err(refusal) => tell::tell_refusal(out, refusal),
     }
 }
 
 // 03: the chain at a position.
-pub fn serve_at(line: &[u8], scratch: &mut [u64], out: &mut [u8]) -> Replied
-    requires { Enough 514 scratch.old out.old }
+pub fn serve_at(
+    line: &[u8],
+    scratch: &mut [u64; lent::SCRATCH],
+    out: &mut [u8; 514],
+) -> Result<u64, Refusal>
     ensures { Handled (served at_line line.now) result
         scratch.old scratch.new out.old out.new }
 {
@@ -128,10 +139,7 @@ fn letters_in(line: &[u8], letters: &mut [u8]) -> usize
     ensures letters_after { letters.new
         ≡ items_left (read_items 1 line.now (length letters.old)) letters.old }
 {
-    match lines::letters_of(line, letters) {
-        Items::Read(k) => k,
-        Items::Refused(_) => 0,
-    }
+    lines::letters_of(line, letters).unwrap_or(0)
 }
 
 fn numbers_in(line: &[u8], numbers: &mut [u16]) -> usize
@@ -139,10 +147,7 @@ fn numbers_in(line: &[u8], numbers: &mut [u16]) -> usize
     ensures numbers_after { numbers.new
         ≡ items_left (read_items 2 line.now (length numbers.old)) numbers.old }
 {
-    match lines::numbers_of(line, numbers) {
-        Items::Read(k) => k,
-        Items::Refused(_) => 0,
-    }
+    lines::numbers_of(line, numbers).unwrap_or(0)
 }
 
 // What a line with a record tells of its largest part, from byte `at` on.
@@ -157,25 +162,33 @@ fn exponents_in(line: &[u8], at: usize) -> Exponents
 }
 
 // 04: a burned record. The reply repeats its exponents and part numbers.
-pub fn serve_record(line: &[u8], scratch: &mut [u64], out: &mut [u8]) -> Replied
-    requires { Enough 514 scratch.old out.old × Fit line.now record_line }
+pub fn serve_record(
+    line: &[u8],
+    scratch: &mut [u64; lent::SCRATCH],
+    out: &mut [u8; 514],
+) -> Result<u64, Refusal>
+    requires { Fit line.now record_line }
     ensures { Handled (served record_line line.now) result
         scratch.old scratch.new out.old out.new }
 {
     let mut numbers = [0u16; 255];
     let k = numbers_in(line, &mut numbers);
     match ranking::read_record(&numbers[0..k], scratch) {
-        Placed::At { n, position } => {
+        Ok(placed) => {
             let told = exponents_in(line, 2);
-            tell::tell_record(out, n, position, told, &numbers[0..k])
+            tell::tell_record(out, placed.n, placed.position, told, &numbers[0..k])
         }
-        Placed::Refused(number) => tell::tell_refusal(out, number),
+        Err(refusal) => tell::tell_refusal(out, refusal),
     }
 }
 
 // 05: a word.
-pub fn serve_word(line: &[u8], scratch: &mut [u64], out: &mut [u8]) -> Replied
-    requires { Enough 514 scratch.old out.old × Fit line.now word_line }
+pub fn serve_word(
+    line: &[u8],
+    scratch: &mut [u64; lent::SCRATCH],
+    out: &mut [u8; 514],
+) -> Result<u64, Refusal>
+    requires { Fit line.now word_line }
     ensures { Handled (served word_line line.now) result
         scratch.old scratch.new out.old out.new }
 {
@@ -187,8 +200,12 @@ pub fn serve_word(line: &[u8], scratch: &mut [u64], out: &mut [u8]) -> Replied
 }
 
 // 06: the chain after a word's.
-pub fn serve_next(line: &[u8], scratch: &mut [u64], out: &mut [u8]) -> Replied
-    requires { Enough 514 scratch.old out.old × Fit line.now next_line }
+pub fn serve_next(
+    line: &[u8],
+    scratch: &mut [u64; lent::SCRATCH],
+    out: &mut [u8; 514],
+) -> Result<u64, Refusal>
+    requires { Fit line.now next_line }
     ensures { Handled (served next_line line.now) result
         scratch.old scratch.new out.old out.new }
 {
@@ -200,27 +217,22 @@ pub fn serve_next(line: &[u8], scratch: &mut [u64], out: &mut [u8]) -> Replied
 }
 
 // The run of the chain that a line of kind 07 names, by its part numbers. It is refused with 16 after all else.
-fn run_numbers(line: &[u8], numbers: &[u16]) -> Ran
+fn run_numbers(line: &[u8], numbers: &[u16]) -> Result<u64, Refusal>
     ensures { ran_reply result
         ≡ or_sixteen (same_part (exponents_in run_line line.now) (largest_of numbers.now))
         (ran_reply (ran_of numbers.now (modulus_in line.now) (residue_in line.now))) }
 {
     let m = lines::field_of(line, 1, 8);
     let x = lines::field_of(line, 9, 8);
-    match running::run_chain(numbers, m, x) {
-        Ran::Residue(residue) => {
-            if parts::is_largest(exponents_in(line, 18), numbers) {
-                Ran::Residue(residue)
-            } else {
-                Ran::Refused(16)
-            }
-        }
-        Ran::Refused(number) => Ran::Refused(number),
+    let residue = running::run_chain(numbers, m, x)?;
+    if !parts::is_largest(exponents_in(line, 18), numbers) {
+        return Err(Refusal::WrongExponents);
     }
+    Ok(residue)
 }
 
 // The run that a line of kind 07 asks for.
-fn run_in(line: &[u8]) -> Ran
+fn run_in(line: &[u8]) -> Result<u64, Refusal>
     requires { Fit line.now run_line }
     ensures { ran_reply result ≡ served run_line line.now }
 {
@@ -230,19 +242,23 @@ fn run_in(line: &[u8]) -> Ran
 }
 
 // Its residue or refusal.
-fn tell_run(line: &[u8], out: &mut [u8]) -> Replied
-    requires { (514 ≤ length out.old) × Fit line.now run_line }
+fn tell_run(line: &[u8], out: &mut [u8; 514]) -> Result<u64, Refusal>
+    requires { Fit line.now run_line }
     ensures { Told (served run_line line.now) result out.old out.new }
 {
     match run_in(line) {
-        Ran::Residue(residue) => tell::tell_single(out, residue),
-        Ran::Refused(number) => tell::tell_refusal(out, number),
+        Ok(residue) => tell::tell_single(out, residue),
+        Err(refusal) => tell::tell_refusal(out, refusal),
     }
 }
 
 // 07: a chain, run on residues. The service is lent no scratch, so the scratch is zeroed here.
-pub fn serve_run(line: &[u8], scratch: &mut [u64], out: &mut [u8]) -> Replied
-    requires { Enough 514 scratch.old out.old × Fit line.now run_line }
+pub fn serve_run(
+    line: &[u8],
+    scratch: &mut [u64; lent::SCRATCH],
+    out: &mut [u8; 514],
+) -> Result<u64, Refusal>
+    requires { Fit line.now run_line }
     ensures { Handled (served run_line line.now) result
         scratch.old scratch.new out.old out.new }
 {
@@ -252,8 +268,12 @@ pub fn serve_run(line: &[u8], scratch: &mut [u64], out: &mut [u8]) -> Replied
 }
 
 // 08: a tree word.
-pub fn serve_tree(line: &[u8], scratch: &mut [u64], out: &mut [u8]) -> Replied
-    requires { Enough 514 scratch.old out.old × Fit line.now tree_line }
+pub fn serve_tree(
+    line: &[u8],
+    scratch: &mut [u64; lent::SCRATCH],
+    out: &mut [u8; 514],
+) -> Result<u64, Refusal>
+    requires { Fit line.now tree_line }
     ensures { Handled (served tree_line line.now) result
         scratch.old scratch.new out.old out.new }
 {
@@ -264,19 +284,21 @@ pub fn serve_tree(line: &[u8], scratch: &mut [u64], out: &mut [u8]) -> Replied
     tell::tell_found(out, found, &places)
 }
 
-// The number of a refusal of kind 09, by whether the line tells the exponents of the largest part: 16 comes before 15.
-fn refusal_by(number: u8, right: bool) -> u8
-    ensures { refused_as result ≡ or_sixteen right (refused_as number) }
+// A refusal of kind 09, by whether the line tells the exponents of the largest part: 16 comes before 15.
+fn refusal_by(refusal: Refusal, right: bool) -> Refusal
+    ensures { refused_as result ≡ or_sixteen right (refused_as refusal) }
 {
     if right {
-        return number;
+        return refusal;
     }
-    if number == 15 { 16 } else { number }
+    match refusal {
+        Refusal::NoTreeWord => Refusal::WrongExponents,
+        other => other,
+    }
 }
 
 // The tree word of the record in a line of kind 09, by its part numbers.
-fn tell_tree_of(line: &[u8], numbers: &[u16], out: &mut [u8]) -> Replied
-    requires { 514 ≤ length out.old }
+fn tell_tree_of(line: &[u8], numbers: &[u16], out: &mut [u8; 514]) -> Result<u64, Refusal>
     ensures { Told
         (or_sixteen (same_part (exponents_in to_tree_line line.now) (largest_of numbers.now))
         (letters_reply (record_tree numbers.now)))
@@ -285,20 +307,19 @@ fn tell_tree_of(line: &[u8], numbers: &[u16], out: &mut [u8]) -> Replied
     let right = parts::is_largest(exponents_in(line, 2), numbers);
     let mut places = [0u8; 160];
     match trees::write_tree(numbers, &mut places) {
-        Written::Letters(k) => {
+        Ok(k) => {
             if !right {
-                return tell::tell_refusal(out, 16);
+                return tell::tell_refusal(out, Refusal::WrongExponents);
             }
-            let end = k as usize;
-            tell::tell_letters(out, &places[0..end])
+            tell::tell_letters(out, &places[0..k as usize])
         }
-        Written::Refused(number) => tell::tell_refusal(out, refusal_by(number, right)),
+        Err(refusal) => tell::tell_refusal(out, refusal_by(refusal, right)),
     }
 }
 
 // The letters that a line of kind 09 asks for, or the refusal.
-fn tell_tree(line: &[u8], out: &mut [u8]) -> Replied
-    requires { (514 ≤ length out.old) × Fit line.now to_tree_line }
+fn tell_tree(line: &[u8], out: &mut [u8; 514]) -> Result<u64, Refusal>
+    requires { Fit line.now to_tree_line }
     ensures { Told (served to_tree_line line.now) result out.old out.new }
 {
     let mut numbers = [0u16; 255];
@@ -307,8 +328,12 @@ fn tell_tree(line: &[u8], out: &mut [u8]) -> Replied
 }
 
 // 09: the tree word of a record's chain. The service is lent no scratch, so the scratch is zeroed here.
-pub fn serve_to_tree(line: &[u8], scratch: &mut [u64], out: &mut [u8]) -> Replied
-    requires { Enough 514 scratch.old out.old × Fit line.now to_tree_line }
+pub fn serve_to_tree(
+    line: &[u8],
+    scratch: &mut [u64; lent::SCRATCH],
+    out: &mut [u8; 514],
+) -> Result<u64, Refusal>
+    requires { Fit line.now to_tree_line }
     ensures { Handled (served to_tree_line line.now) result
         scratch.old scratch.new out.old out.new }
 {
@@ -317,23 +342,26 @@ pub fn serve_to_tree(line: &[u8], scratch: &mut [u64], out: &mut [u8]) -> Replie
     replied
 }
 
-// A fit line, by the byte of its kind.
-pub fn serve_kind(kind: u8, line: &[u8], scratch: &mut [u64], out: &mut [u8]) -> Replied
-    requires { Enough 514 scratch.old out.old × FitAs kind line.now }
+// A fit line, by its kind.
+pub fn serve_kind(
+    kind: Kind,
+    line: &[u8],
+    scratch: &mut [u64; lent::SCRATCH],
+    out: &mut [u8; 514],
+) -> Result<u64, Refusal>
+    requires { FitAs kind line.now }
     ensures { Handled (reply_to line.now) result
         scratch.old scratch.new out.old out.new }
 {
     match kind {
-        1 => serve_count(line, scratch, out),
-        2 => serve_best(line, scratch, out),
-        3 => serve_at(line, scratch, out),
-        4 => serve_record(line, scratch, out),
-        5 => serve_word(line, scratch, out),
-        6 => serve_next(line, scratch, out),
-        7 => serve_run(line, scratch, out),
-        8 => serve_tree(line, scratch, out),
-        9 => serve_to_tree(line, scratch, out),
-        // No other byte is that of a kind.
-        _ => serve_refusal(4, scratch, out),
+        Kind::Count => serve_count(line, scratch, out),
+        Kind::Best => serve_best(line, scratch, out),
+        Kind::At => serve_at(line, scratch, out),
+        Kind::Record => serve_record(line, scratch, out),
+        Kind::Word => serve_word(line, scratch, out),
+        Kind::Next => serve_next(line, scratch, out),
+        Kind::Run => serve_run(line, scratch, out),
+        Kind::Tree => serve_tree(line, scratch, out),
+        Kind::ToTree => serve_to_tree(line, scratch, out),
     }
 }

@@ -12,25 +12,23 @@ pub fn put_rests(m: u64, part: &mut [u64]) -> usize
     ensures value { result ≡ live_rows m (length part.old) }
     ensures part_after { part.new ≡ rests_of m (length part.old) }
 {
-    lent::clear_u64(part);
+    part.fill(0);
     let mut rest = m;
-    let mut i = 0;
-    while 0 < rest {
-        if i == part.len() {
+    for i in 0..part.len() {
+        if rest == 0 {
             return i;
         }
         part[i] = rest;
-        rest = rest / 3;
-        i += 1;
+        rest /= 3;
     }
-    i
+    part.len()
 }
 
 // How many columns of a row are live, where m is the rest of its first column: as many as m has bits.
 pub fn live_columns(m: u64) -> usize
     ensures { (result ≤ 64) × (m < 2 ^ result) × (2 ^ result ≤ 2 * m + 1) }
 {
-    64 - u64::leading_zeros(m) as usize
+    64 - m.leading_zeros() as usize
 }
 
 // The mask of a row whose bit a is 1 where the rest of column a leaves the remainder 1 by three. m and q are the rests of the first

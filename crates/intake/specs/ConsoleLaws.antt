@@ -2,7 +2,7 @@
 --
 -- In this order: what is kept before the first call; what one call keeps; what two calls keep together; a call to which enough is
 -- lent is not refused; the first n bytes of `out`.
-use Rattle.std.specs.Prelude.{◌≡◌, Bool, true, false, List, [], ◌++◌, ℕ, ◌+◌, ◌-◌, ◌≤◌, length, take, drop, replicate}
+use Rattle.std.specs.Prelude.{◌≡◌, Result, Ok, Err, Bool, true, false, List, [], ◌++◌, ℕ, ◌+◌, ◌-◌, ◌≤◌, length, take, drop, replicate}
 use Rattle.std.proofs.Common.{sym, ◌∙◌, true≢false, append-nil, arith, drop_of_length-le, length-take, length-drop, take_all, take-add, length-take-le}
 use Rattle.std.proofs.Math.Path.{ap}
 use Rattle.std.proofs.Math.Nat.{sub-zero}
@@ -15,10 +15,8 @@ use Rattle.frames.specs.Replies.{reply_of}
 use Rattle.frames.specs.ReplyLaws.{first_515}
 use Rattle.stream.specs.Answers.{little, Lending, Goes, used_of, fed_of, kept_left, replies_left, Moves, ended_of}
 use Rattle.stream.specs.AnswerLaws.{enough_lent, Served, served, what_kept, what_wrote, wrote_fits, end_served, moves_on}
-use Rattle.stream.specs.declared.Fed.{Fed}
-use Rattle.stream.specs.declared.Fed.TheVariants as fed
-use Rattle.stream.specs.declared.Ended.{Ended}
-use Rattle.stream.specs.declared.Ended.TheVariants as ended
+use Rattle.refusals.specs.declared.Refusal.{Refusal}
+use Rattle.stream.specs.declared.Progress.{Progress}
 use Rattle.intake.specs.Console.{Alone, Holds, Replies, Begins}
 
 -- ---- before the first call
@@ -80,19 +78,17 @@ holds_all line block kept at left h a = rw (take_all at block h) at a
 
 -- ---- not refused
 
-fed_refused : (b : Bool) (line block : List ℕ) (used q : ℕ) → b ≡ false → fed.Refused q ≡ fed_of b line block used → ⊥
+fed_refused : (b : Bool) (line block : List ℕ) (used : ℕ) (q : Refusal) → b ≡ false → Err q ≡ fed_of b line block used → ⊥
 unfolding fed_of
 fed_refused true line block used q n e = true≢false n
 fed_refused false line block used q n e =
-    let z : ◌≡◌ {A = ℕ} 0 1 = cc in
-    omega arith
+    cc
 
-end_refused : (b : Bool) (line : List ℕ) (q : ℕ) → b ≡ false → ended.Refused q ≡ ended_of b line → ⊥
+end_refused : (b : Bool) (line : List ℕ) (q : Refusal) → b ≡ false → Err q ≡ ended_of b line → ⊥
 unfolding ended_of
 end_refused true line q n e = true≢false n
 end_refused false line q n e =
-    let z : ◌≡◌ {A = ℕ} 0 1 = cc in
-    omega arith
+    cc
 
 module _ (kept : List ℕ) (k : ℕ) (scratch out : List ℕ) (lent : Lending kept k scratch out) where
   abbrev b : Bool
@@ -102,11 +98,11 @@ module _ (kept : List ℕ) (k : ℕ) (scratch out : List ℕ) (lent : Lending ke
   line = take k kept
 
   -- A call on a block answers r.
-  module _ (block : List ℕ) (r : Fed) (told : r ≡ fed_of b line block (used_of r)) where
-    pub block_not_refused : (q : ℕ) → r ≡ fed.Refused q → ⊥
+  module _ (block : List ℕ) (r : Result Progress Refusal) (told : r ≡ fed_of b line block (used_of r)) where
+    pub block_not_refused : (q : Refusal) → r ≡ Err q → ⊥
     block_not_refused q e = fed_refused b line block (used_of r) q (enough_lent kept k scratch out lent) (sym e ∙ told)
 
-    pub block_taken : (kept_exit out_exit : List ℕ) (used left n : ℕ) → r ≡ fed.Taken used left n
+    pub block_taken : (kept_exit out_exit : List ℕ) (used left n : ℕ) → r ≡ Ok (record { used = used; kept = left; written = n })
         → (b ≡ false → Goes line block out (used_of r)) → kept_exit ≡ kept_left b (unfinished line (take (used_of r) block)) kept
         → out_exit ≡ replies_left b (finished line (take (used_of r) block)) out
         → Moves block out_exit used left n
@@ -122,11 +118,11 @@ module _ (kept : List ℕ) (k : ℕ) (scratch out : List ℕ) (lent : Lending ke
         )
 
   -- The call at the end answers r.
-  module _ (r : Ended) (told : r ≡ ended_of b line) where
-    pub end_not_refused : (q : ℕ) → r ≡ ended.Refused q → ⊥
+  module _ (r : Result ℕ Refusal) (told : r ≡ ended_of b line) where
+    pub end_not_refused : (q : Refusal) → r ≡ Err q → ⊥
     end_not_refused q e = end_refused b line q (enough_lent kept k scratch out lent) (sym e ∙ told)
 
-    pub end_written : (out_exit : List ℕ) (n : ℕ) → r ≡ ended.Written n → out_exit ≡ replies_left b (last_line line) out
+    pub end_written : (out_exit : List ℕ) (n : ℕ) → r ≡ Ok n → out_exit ≡ replies_left b (last_line line) out
         → (n ≤ length out_exit) × (take n out_exit ≡ replies_to reply_of (last_line line))
     end_written out_exit n e o =
         let w = end_served b line out out_exit n (sym e ∙ told) o in

@@ -1,14 +1,14 @@
 // Standard input answered to standard output: document 01, 'Frames'. What is answered is the crate stream's; here are the calls
 // that read and write, of which no contract can say which bytes they move. What a read brings is answered, and the replies are
 // written, before the next read, so that a person at a pipe gets a reply to each line. Memory does not grow with the input.
-ghost use Rattle.std.specs.Prelude.{◌≡◌, true, false, ◌≤◌, ◌<◌, length, take, Ok};
+ghost use Rattle.std.specs.Prelude.{◌≡◌, true, false, Ok, ◌≤◌, length, take};
 ghost use Rattle.lines.specs.Stream.{finished, unfinished, last_line, replies_to};
 ghost use Rattle.frames.specs.Replies.{reply_of};
 ghost use Rattle.stream.specs.Answers.{Moves};
 ghost use Rattle.intake.specs.Console.{Ready, Holds, Replies, Begins, brought, came};
 
 use std::io::{Error, ErrorKind, Read, Result, Write};
-use stream::{Ended, Fed};
+use stream::Progress;
 
 // Whether a call that failed was only interrupted by a signal, and is to be tried again.
 fn was_interrupted(error: &Error) -> bool {
@@ -20,19 +20,28 @@ fn tell_failure(rt: &HostRuntime, what: &str, error: &Error) {
     let _ = eprintln!(rt; "{what}: {error}");
 }
 
-// Writes all of the bytes, or answers why it could not. A loop has to end, so it counts its turns down from a number that no run uses
-// up.
+// The memory that the calls are lent, enough for all: the first k of `kept` are what is kept of a line that is not finished, and all
+// that it holds. The project uses no heap, so `kept` is an array with its length beside it.
+#[derive(Drop)]
+struct Memory {
+    kept: [u8; 515],
+    k: usize,
+    scratch: [u64; lent::SCRATCH],
+    out: [u8; 65536],
+    ghost ready: { Ready kept k scratch out },
+}
+
+// Writes all of the bytes, or answers why it could not. A loop has to end, so it takes fewer turns than a number that no run uses up.
+// Std's own `write_all` tells in other words that a write took no byte, and the program is to tell it as ever.
 fn write_all(rt: &HostRuntime, bytes: &[u8]) -> Result<()> {
-    let mut done = 0;
-    let mut turns = u64::MAX;
-    while done < bytes.len() {
-        if turns == 0 {
-            return Err(Error::from(ErrorKind::TimedOut));
+    let mut rest = bytes;
+    for _ in 0..u64::MAX {
+        if rest.is_empty() {
+            return Ok(());
         }
-        turns -= 1;
-        match rt.stdout().write(&bytes[done..]) {
+        match rt.stdout().write(rest) {
             Ok(0) => return Err(Error::from(ErrorKind::WriteZero)),
-            Ok(written) => done += written,
+            Ok(written) => rest = &rest[written..],
             Err(error) => {
                 if !was_interrupted(&error) {
                     return Err(error);
@@ -40,7 +49,7 @@ fn write_all(rt: &HostRuntime, bytes: &[u8]) -> Result<()> {
             }
         }
     }
-    Ok(())
+    Err(Error::from(ErrorKind::TimedOut))
 }
 
 // The same for replies, with a failure told on standard error. Nothing else is written to standard output.
@@ -56,134 +65,6 @@ fn put(rt: &HostRuntime, bytes: &[u8]) -> bool
     }
 }
 
-// How much of a block one call used, how many characters it kept, and how many bytes of replies it wrote to memory.
-#[derive(Drop)]
-struct Taken {
-    used: usize,
-    kept: usize,
-    written: usize,
-}
-
-// Answers as much of a block as the room for replies takes. Enough is lent, so that no call is refused.
-fn take_part(block: &[u8], kept: &mut [u8], k: usize, scratch: &mut [u64], out: &mut [u8]) -> Taken
-    requires { Ready kept.old k scratch.old out.old }
-    ensures moves { Moves block.now out.new result.used result.kept result.written }
-    ensures kept { Holds (unfinished (take k kept.old) (take result.used block.now)) kept.new
-        result.kept }
-    ensures out { take result.written out.new
-        ≡ replies_to reply_of (finished (take k kept.old) (take result.used block.now)) }
-{
-    match stream::answer_block(block, kept, k, scratch, out) {
-        Fed::Taken {
-            used,
-            kept: left,
-            written,
-        } => Taken {
-            used,
-            kept: left,
-            written,
-        },
-        Fed::Refused(_) => Taken {
-            used: 0,
-            kept: 0,
-            written: 0,
-        },
-    }
-}
-
-// How much of a block one call answered, how many characters it kept, and whether its replies were written.
-#[derive(Drop)]
-struct Part {
-    used: usize,
-    kept: usize,
-    is_put: bool,
-}
-
-// Answers as much of a block as the room for replies takes, and writes the replies. They stand first in `out`.
-fn answer_part(
-    rt: &HostRuntime,
-    block: &[u8],
-    kept: &mut [u8],
-    k: usize,
-    scratch: &mut [u64],
-    out: &mut [u8],
-) -> Part
-    requires { Ready kept.old k scratch.old out.old }
-    ensures moves { (result.used ≤ length block.now) × (0 < length block.now → 0 < result.used) }
-    ensures kept { Holds (unfinished (take k kept.old) (take result.used block.now)) kept.new
-        result.kept }
-    ensures out { Begins (replies_to reply_of (finished (take k kept.old) (take result.used block.now)))
-        out.new }
-{
-    let taken = take_part(block, kept, k, scratch, out);
-    let written = taken.written;
-    Part {
-        used: taken.used,
-        kept: taken.kept,
-        is_put: put(rt, &out[0..written]),
-    }
-}
-
-// How many characters are kept of an unfinished line, and whether there is more to read.
-#[derive(Drop)]
-struct Answer {
-    kept: usize,
-    more: bool,
-}
-
-// Answers a block, part by part. Where there is more to read, what the whole block leaves unfinished is kept.
-fn answer_bytes(
-    rt: &HostRuntime,
-    block: &[u8],
-    kept: &mut [u8],
-    k: usize,
-    scratch: &mut [u64],
-    out: &mut [u8],
-) -> Answer
-    requires { Ready kept.old k scratch.old out.old }
-    ensures { result.more ≡ true
-        → Holds (unfinished (take k kept.old) block.now) kept.new result.kept }
-{
-    let mut left = k;
-    let mut at = 0;
-    while at < block.len() {
-        let part = answer_part(rt, &block[at..], kept, left, scratch, out);
-        left = part.kept;
-        at += part.used;
-        if !part.is_put {
-            return Answer {
-                kept: left,
-                more: false,
-            };
-        }
-    }
-    Answer {
-        kept: left,
-        more: true,
-    }
-}
-
-// Answers what is kept at the end of the input, and tells how many bytes of a reply it wrote to memory.
-fn take_rest(kept: &[u8], k: usize, scratch: &mut [u64], out: &mut [u8]) -> usize
-    requires { Ready kept.now k scratch.old out.old }
-    ensures { (result ≤ length out.new)
-        × (take result out.new ≡ replies_to reply_of (last_line (take k kept.now))) }
-{
-    match stream::answer_end(kept, k, scratch, out) {
-        Ended::Written(written) => written,
-        Ended::Refused(_) => 0,
-    }
-}
-
-// The same, and writes the reply. It stands first in `out`.
-fn answer_rest(rt: &HostRuntime, kept: &[u8], k: usize, scratch: &mut [u64], out: &mut [u8])
-    requires { Ready kept.now k scratch.old out.old }
-    ensures { Begins (replies_to reply_of (last_line (take k kept.now))) out.new }
-{
-    let written = take_rest(kept, k, scratch, out);
-    put(rt, &out[0..written]);
-}
-
 // How many bytes of the block a read brought, given what the read call answered: none where it failed, and no more than the block has.
 fn count(got: &Result<usize>, block: &[u8]) -> usize
     ensures in_bounds { result ≤ length block.now }
@@ -195,77 +76,101 @@ fn count(got: &Result<usize>, block: &[u8]) -> usize
     }
 }
 
-// Answers what a read brought, given what the read call answered: the kept line at the end of the input, else all the bytes that
-// came. A read that was interrupted brings nothing, and the next one tries again; one that failed is told on standard error. Where
-// there is more to read, what the bytes that came leave unfinished is kept.
-fn answer_got(
-    rt: &HostRuntime,
-    got: Result<usize>,
-    block: &[u8],
-    kept: &mut [u8],
-    k: usize,
-    scratch: &mut [u64],
-    out: &mut [u8],
-) -> Answer
-    requires { Ready kept.old k scratch.old out.old }
-    ensures end { got ≡ Ok 0 → (result.more ≡ false)
-        × Begins (replies_to reply_of (last_line (take k kept.old))) out.new }
-    ensures more { result.more ≡ true
-        → Holds (unfinished (take k kept.old) (came got block.now)) kept.new result.kept }
-{
-    match &got {
-        Ok(0) => {
-            answer_rest(rt, kept, k, scratch, out);
-            return Answer {
-                kept: 0,
-                more: false,
-            };
-        }
-        Ok(_) => (),
-        Err(error) => {
-            if !was_interrupted(error) {
-                tell_failure(rt, "standard input", error);
-                return Answer {
-                    kept: 0,
-                    more: false,
-                };
+impl Memory {
+    // Answers as much of a block as the room for replies takes. Enough is lent, so that no call is refused.
+    fn take_part(&mut self, block: &[u8]) -> Progress
+        ensures moves { Moves block.now self.new.out result.used result.kept result.written }
+        ensures kept { Holds (unfinished (take self.old.k self.old.kept) (take result.used block.now)) self.new.kept self.new.k }
+        ensures out { take result.written self.new.out
+            ≡ replies_to reply_of (finished (take self.old.k self.old.kept) (take result.used block.now)) }
+    {
+        let part = stream::answer_block(
+            block,
+            &mut self.kept,
+            self.k,
+            &mut self.scratch,
+            &mut self.out,
+        )
+        .unwrap();
+        self.k = part.kept;
+        part
+    }
+
+    // Answers a block, part by part, and tells whether the replies could be written. They stand first in `out`. Where they could, what
+    // the whole block leaves unfinished is kept.
+    fn answer_bytes(&mut self, rt: &HostRuntime, block: &[u8]) -> bool
+        ensures { result ≡ true → Holds (unfinished (take self.old.k self.old.kept) block.now) self.new.kept self.new.k }
+    {
+        let mut at = 0;
+        // A call tells how much of the block it used, so no iterator knows the parts beforehand.
+        while at < block.len() {
+            let part = self.take_part(&block[at..]);
+            at += part.used;
+            if !put(rt, &self.out[0..part.written]) {
+                return false;
             }
         }
+        true
     }
-    let n = count(&got, block);
-    answer_bytes(rt, &block[0..n], kept, k, scratch, out)
-}
 
-// Answers all of the input in lent memory: reads, and answers what came, until there is no more to read. No contract can say that
-// the number which is handed on is the one that the read call answered.
-fn answer_all(
-    rt: &HostRuntime,
-    block: &mut [u8],
-    kept: &mut [u8],
-    scratch: &mut [u64],
-    out: &mut [u8],
-)
-    requires { Ready kept.old 0 scratch.old out.old }
-{
-    let mut k = 0;
-    let mut turns = u64::MAX;
-    while turns > 0 {
-        turns -= 1;
-        let got = rt.stdin().read(block);
-        let answer = answer_got(rt, got, block, kept, k, scratch, out);
-        if !answer.more {
-            return;
+    // Answers what is kept at the end of the input, and tells how many bytes of a reply it wrote to memory.
+    fn take_rest(&mut self) -> usize
+        ensures { (result ≤ length self.new.out)
+            × (take result self.new.out ≡ replies_to reply_of (last_line (take self.old.k self.old.kept))) }
+    {
+        stream::answer_end(&self.kept, self.k, &mut self.scratch, &mut self.out).unwrap()
+    }
+
+    // The same, and writes the reply. It stands first in `out`.
+    fn answer_rest(&mut self, rt: &HostRuntime)
+        ensures { Begins (replies_to reply_of (last_line (take self.old.k self.old.kept))) self.new.out }
+    {
+        let written = self.take_rest();
+        put(rt, &self.out[0..written]);
+    }
+
+    // Answers what a read brought, given what the read call answered: the kept line at the end of the input, else all the bytes that
+    // came. Tells whether there is more to read. A read that was interrupted brings nothing, and the next one tries again; one that
+    // failed is told on standard error. Where there is more to read, what the bytes that came leave unfinished is kept.
+    fn answer_got(&mut self, rt: &HostRuntime, got: Result<usize>, block: &[u8]) -> bool
+        ensures end { got ≡ Ok 0 → (result ≡ false)
+            × Begins (replies_to reply_of (last_line (take self.old.k self.old.kept))) self.new.out }
+        ensures more { result ≡ true
+            → Holds (unfinished (take self.old.k self.old.kept) (came got block.now)) self.new.kept self.new.k }
+    {
+        match &got {
+            Ok(0) => {
+                self.answer_rest(rt);
+                return false;
+            }
+            Ok(_) => (),
+            Err(error) => {
+                if !was_interrupted(error) {
+                    tell_failure(rt, "standard input", error);
+                    return false;
+                }
+            }
         }
-        k = answer.kept;
+        let n = count(&got, block);
+        self.answer_bytes(rt, &block[0..n])
     }
 }
 
-// Answers standard input: reads it in blocks of 65,536 bytes, and writes a reply for each line. A read or a write that fails is
-// told on standard error and ends it.
+// Answers standard input: reads it in blocks of 65,536 bytes, and writes a reply for each line, until there is no more to read. A read
+// or a write that fails is told on standard error and ends it. No contract can say that the number which is handed on is the one that
+// the read call answered.
 pub fn answer_input(rt: &HostRuntime) {
     let mut block = io::large_buffer();
-    let mut out = io::large_buffer();
-    let mut kept = [0u8; 515];
-    let mut scratch = [0u64; lent::SCRATCH];
-    answer_all(rt, &mut block, &mut kept, &mut scratch, &mut out);
+    let mut memory = Memory {
+        kept: [0; 515],
+        k: 0,
+        scratch: [0; lent::SCRATCH],
+        out: io::large_buffer(),
+    };
+    for _ in 0..u64::MAX {
+        let got = rt.stdin().read(&mut block);
+        if !memory.answer_got(rt, got, &block) {
+            return;
+        }
+    }
 }

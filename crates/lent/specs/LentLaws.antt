@@ -1,7 +1,8 @@
 -- The laws of lent memory; the definitions are in Lent.
 --
--- In this order: the length is kept; a part of that size that was zeroed; what is given, put over the zeros; memory of which only the
--- first may have changed; whether too little is lent, and the memory at exit, in each case.
+-- In this order: zeros, also those that the library's `fill` leaves; the length is kept; a part of that size that was zeroed; what is
+-- given, put over the zeros; memory of which only the first may have changed; whether too little is lent, and the memory at exit, in
+-- each case.
 use Rattle.std.specs.Prelude.{◌≡◌, refl, Bool, true, false, ◌||◌, List, [], ◌++◌, ℕ, zero, suc, ◌+◌, ◌-◌, ◌≤◌, ◌<◌, length, get_or, take, drop, replicate}
 use Rattle.std.proofs.Common.{sym, ap, ◌∙◌, true≢false, append_assoc, arith, length-append, length-drop, length-take-le, drop_at}
 use Rattle.std.proofs.Math.Bool.{or-true}
@@ -16,6 +17,11 @@ use Rattle.lent.specs.Lent.{zeros, filled, OnlyFirst, fewer, too_few, Lends, mem
 pub length_zeros : (k : ℕ) → length (zeros k) ≡ k
 unfolding zeros
 length_zeros k = length-replicate k 0
+
+-- What `fill(0)` leaves of k numbers: its clause `after` says so under a premise, that a clone of 0 is 0.
+pub zeros_by_fill : (k : ℕ) {ys : List ℕ} → (((y : ℕ) → y ≡ 0 → y ≡ 0) → ys ≡ replicate k 0) → ys ≡ zeros k
+unfolding zeros
+zeros_by_fill k after = after (λ y e. e)
 
 pub zeros_at : (k i : ℕ) → get_or (zeros k) i 0 ≡ 0
 unfolding zeros

@@ -2,7 +2,8 @@
 --
 -- In this order: the case that was met; the number 0; the key of a word by the costs as the code has them; the least key tells the price of
 -- the cheapest chain; what the calls with the table of keys in the memory ask and give; the count in a table of counts.
-use Rattle.std.specs.Prelude.{◌≡◌, refl, ◌↔◌, Bool, true, false, ℕ, zero, suc, ◌+◌, ◌*◌, ◌/◌, ◌%◌, ◌^◌, ◌≤◌, ◌<◌, min, T, get_or}
+use Rattle.std.specs.Prelude as std
+use Rattle.std.specs.Prelude.{◌≡◌, refl, ◌↔◌, Bool, true, ℕ, zero, suc, ◌+◌, ◌*◌, ◌/◌, ◌%◌, ◌^◌, ◌≤◌, ◌<◌, min, T, get_or}
 use Rattle.std.proofs.Common.{sym, ap, subst, ◌∙◌}
 use mathlib.Core.List.{List, [], ◌∷◌}
 use Rattle.std.proofs.Math.Option.{Option, none, some, map}
@@ -25,26 +26,25 @@ use Rattle.chains.proofs.BestOfAll.{letter_cost, costs_of, price_weight, key_pri
 use Rattle.chains.proofs.PriceLaws.{price_fits}
 use Rattle.words.specs.Packed.{bits, rise, mark}
 use Rattle.grid.specs.Rests.{rest_origin}
+use Rattle.best.specs.declared.terms.Priced.{Priced}
 use Rattle.best.specs.ChosenLaws.{zero_word}
-use Rattle.best.specs.KeyTable.{no_key, letter_by, costs_by, Low, Cheap}
+use Rattle.best.specs.KeyTable.{no_key, letter_by, costs_by, Low, Cheap, TermsOf}
 use Rattle.best.specs.KeyTableLaws.{five_low}
-use Rattle.limited.specs.declared.choosing.Choice.{Choice}
-use Rattle.limited.specs.declared.choosing.Choice.TheVariants as choice
 use Rattle.limited.specs.Services.{table_size}
 use Rattle.limited.specs.Table.{start, TableFilled}
 use Rattle.limited.specs.TableLaws.{read_free}
-use Rattle.limited.specs.Cells.{cheap_list, key_in, cell_in, TableStart}
+use Rattle.limited.specs.Cells.{cheap_list, counts, key_in}
 use Rattle.limited.specs.KeyLaws.{key_at_most}
 use Rattle.limited.specs.Walk.{cheap_from, Keyed, WalkStart, Spelled}
 use Rattle.limited.specs.WalkLaws.{first_key}
 use Rattle.limited.specs.Choosing.{WordChosen, ChosenBy}
 
 -- By the case that was met.
-module _ (n : ℕ) (lim : Limits) (π : Prices) (r : Choice) (h : ChosenBy n lim π r) where
-  pub by_word : {rises marks p : ℕ} → r ≡ choice.Word rises marks p → WordChosen n lim π rises marks p
+module _ (n : ℕ) (lim : Limits) (π : Prices) (r : std.Option Priced) (h : ChosenBy n lim π r) where
+  pub by_word : {w : Priced} → r ≡ std.Some w → WordChosen n lim π w.word.rises w.word.marks w.price
   by_word e = subst (ChosenBy n lim π) e h
 
-  pub by_nothing : r ≡ choice.Nothing → cheapest_chain n lim (price π) ≡ none
+  pub by_nothing : r ≡ std.None → cheapest_chain n lim (price π) ≡ none
   by_nothing e = subst (ChosenBy n lim π) e h
 
 -- ---- the number 0
@@ -144,48 +144,43 @@ module _ {n : ℕ} (lim : Limits) (π : Prices) (fits : n < 2 ^ 64) where
 
 -- ---- with the table in the memory
 
--- What is at hand when the table is filled: the costs of the prices, a number of 64 bits that is not 0, prices of 16 bits, the limit on
--- parts.
-pub record Begun (costs : List ℕ) (n : ℕ) (lim : Limits) (π : Prices) (most : ℕ) (scratch : List ℕ) : Type 0 where
-  pub costs_are : costs ≡ cheap_list π
-  pub fits : n < 2 ^ 64
-  pub some_left : 1 ≤ n
-  pub cheap : Cheap π
-  pub most_is : most ≡ min lim.K 64
-  pub size : table_size ≤ length scratch
+-- What filling the table asks.
+pub fill_asked : {lim : Limits} {π : Prices} {costs : List ℕ} {A B most : ℕ} (entry : List ℕ) → TermsOf (cheap_list π) lim π costs A B
+    → most ≡ min lim.K 64 → table_size ≤ length entry → (table_size ≤ length entry) × (most < 65) × Low costs
+fill_asked {π = π} entry terms most_is size = (size, omega arith, rw terms.costs_are (costs_low π terms.cheap))
 
-module _ {costs : List ℕ} {n : ℕ} {lim : Limits} {π : Prices} {most : ℕ} {entry : List ℕ} (b : Begun costs n lim π most entry) where
-  low : Low costs
-  low = rw b.costs_are (costs_low π b.cheap)
-
-  pub fill_asked : TableStart costs most entry
-  fill_asked = record { size = b.size; few = omega (arith, b.most_is); low = low }
-
-  module _ {l : List ℕ} (f : TableFilled (cell_in false costs lim.A lim.B) n (suc most) 0 entry l) where
-    keyed : Keyed costs lim.A lim.B most n l
-    keyed = record { size = omega (arith, b.size, f.used.same); few = omega (arith, b.most_is); low = low; table = f.rows }
+-- The table of n, which is not 0, is filled with keys over `entry`.
+module _
+    {n : ℕ} {lim : Limits} {π : Prices} {costs : List ℕ} {A B most : ℕ} {entry l : List ℕ} (terms : TermsOf (cheap_list π) lim π costs A B)
+    (fits : n < 2 ^ 64) (some_left : 1 ≤ n) (most_is : most ≡ min lim.K 64) (size : table_size ≤ length entry)
+    (f : TableFilled (key_in costs A B) n (suc most) 0 entry l)
+  where
+    pub keyed : Keyed costs A B most n l
+    keyed =
+        let a = fill_asked entry terms most_is size in
+        record { small = fits; size = omega (arith, f.used.same); few = a.1; low = a.2; table = f.rows }
 
     pub within : most < length l
     within = omega (arith, keyed.size, keyed.few)
 
-    key_is : get_or l most 0 ≡ key_in costs lim.A lim.B 0 0 n true most
-    key_is = first_key keyed b.some_left
+    key_is : get_or l most 0 ≡ key_in costs A B 0 0 n true most
+    key_is = first_key keyed some_left
 
     pub filled_none : no_key ≤ get_or l most 0 → cheapest_chain n lim (price π) ≡ none
     filled_none h =
-        let none : key_in costs lim.A lim.B 0 0 n true most ≡ no_key =
-        omega (arith, key_is, key_at_most costs lim.A lim.B 0 0 n true most) in
-        none_within lim π b.fits b.cheap (rw (b.costs_are, b.most_is) at none)
+        let none : key_in costs A B 0 0 n true most ≡ no_key = omega (arith, key_is, key_at_most costs A B 0 0 n true most) in
+        none_within lim π fits terms.cheap (rw (terms.costs_are, terms.doublings_are, terms.triplings_are, most_is) at none)
 
     module _ (h : get_or l most 0 < no_key) where
-      pub word_asked : WalkStart costs lim.A lim.B most n l
-      word_asked = record { keys = keyed; some_left = b.some_left; found = omega (arith, key_is) }
+      pub word_asked : WalkStart costs A B most n
+      word_asked = record { some_left = some_left; found = omega (arith, key_is) }
 
-      pub filled_word : {rises marks : ℕ} → Spelled costs lim.A lim.B most n rises marks
+      pub filled_word : {rises marks : ℕ} → Spelled costs A B most n rises marks
           → WordChosen n lim π rises marks (get_or l most 0 / price_weight)
       filled_word s =
-          rw (s.rising, s.marking, key_is, b.costs_are, b.most_is)
-          (word_within lim π b.fits b.cheap s.word (rw (b.costs_are, b.most_is) at s.found))
+          rw (s.rising, s.marking, key_is, terms.costs_are, terms.doublings_are, terms.triplings_are, most_is)
+          (word_within lim π fits terms.cheap s.word
+          (rw (terms.costs_are, terms.doublings_are, terms.triplings_are, most_is) at s.found))
 
 -- ---- the count
 
@@ -196,10 +191,10 @@ none_low = five_low 0 0 0 0 0 (omega arith, omega arith, omega arith, omega arit
 pub count_zero : (K n : ℕ) → n ≡ 0 → 1 ≡ count_up_to K n
 count_zero K n e = rw e (sym (count_up_to_zero K))
 
-pub count_in_lem : (costs : List ℕ) (A B K : ℕ) {n most : ℕ} {entry l : List ℕ} → n < 2 ^ 64 → 1 ≤ n → most ≡ min K 64
-    → TableFilled (cell_in true costs A B) n (suc most) 0 entry l → get_or l most 0 ≡ count_up_to K n
-unfolding start cell_in
-count_in_lem costs A B K {n} {most} {entry} {l} fits left e f =
+pub count_in_lem : (K : ℕ) {n most : ℕ} {entry l : List ℕ} → n < 2 ^ 64 → 1 ≤ n → most ≡ min K 64
+    → TableFilled counts n (suc most) 0 entry l → get_or l most 0 ≡ count_up_to K n
+unfolding start
+count_in_lem K {n} {most} {entry} {l} fits left e f =
     ap (λ (i : ℕ). get_or l i 0) {x = most} {y = 0 + most} (omega arith)
     ∙ read_free f.rows 0 0 most (omega arith) (omega arith) (rw rest_origin left) (omega arith)
     ∙ ap (λ (x : ℕ). ways_up_to most true x) (rest_origin n)

@@ -11,20 +11,19 @@ use native.Mathlib.Omega.{arith}
 use Rattle.chains.proofs.Members.{rises}
 use Rattle.chains.proofs.PartLimit.{ways_up_to_step, ways_up_to_one, ways_up_to_none, ways_up_to_at_most}
 use Rattle.limited.specs.Table.{Block, Filled}
-use Rattle.limited.specs.TableLaws.{lent_still, read_right, read_above}
-use Rattle.limited.specs.Cells.{count_in, cell_in, CountAsked, BlockAsked}
+use Rattle.limited.specs.TableLaws.{cell_still, read_right, read_above}
+use Rattle.limited.specs.Cells.{count_in, counts, cell_in, CellAsked}
 
-pub count_asked : {counting : Bool} {costs : List ℕ} {A B b a m up most : ℕ} {l : List ℕ} → counting ≡ true
-    → BlockAsked counting costs A B b a m up most l → CountAsked m up most l
+pub count_asked : {counting : Bool} (costs : List ℕ) (A B : ℕ) {b a m up most : ℕ} {l : List ℕ} → counting ≡ true
+    → CellAsked (cell_in counting costs A B) b a m up most l → CellAsked counts b a m up most l
 unfolding cell_in
-count_asked e q = let p = rw e at q in record { lent = p.lent; some_left = p.some_left; few = p.few }
+count_asked costs A B e q = let p = rw e at q in record { lent = p.lent; some_left = p.some_left; few = p.few }
 
-pub count_still : {g : Block} {m up most j : ℕ} {entry l : List ℕ} (k : ℕ) → CountAsked m up most entry → Filled g j entry l → k ≤ most
-    → CountAsked m up k l
-count_still k p f h =
-    record { lent = lent_still p.lent f (omega arith); some_left = p.some_left; few = omega (arith, p.few) }
+pub count_still : {g : Block} {b a m up most j : ℕ} {entry l : List ℕ} (k : ℕ) → CellAsked counts b a m up most entry
+    → Filled g j entry l → k ≤ most → CellAsked counts b a m up k l
+count_still = cell_still
 
-module _ {m up k : ℕ} {l : List ℕ} (p : CountAsked m up k l) where
+module _ {b a m up k : ℕ} {l : List ℕ} (p : CellAsked counts b a m up k l) where
   pub count_none : (f : Bool) → k ≡ 0 → 0 ≡ count_in m f k
   count_none f e = rw e (sym (ways_up_to_none f m p.some_left))
 
@@ -80,3 +79,12 @@ module _ {m up k : ℕ} {l : List ℕ} (p : CountAsked m up k l) where
         let z : k - 0 ≡ k = omega arith in
         let s : count_in m true k ≡ beside + count_in (m / 3) true k = rw z at (step true 0 e) in
         omega (arith, step false 0 e, read_above p.lent two (up + k) k (omega arith) (omega arith) refl)
+
+    -- Its number at both, in one form.
+    pub free_up : m % 3 ≢ 2 → beside + get_or l (up + k - m % 3) 0 ≡ count_in m true k
+    free_up ne = go (m % 3) refl
+      where
+        go : (r : ℕ) → m % 3 ≡ r → beside + get_or l (up + k - r) 0 ≡ count_in m true k
+        go zero e = let z : up + k - 0 ≡ up + k = omega arith in rw z (omega (arith, after_other (omega arith), free_zero e))
+        go (suc zero) e = after_one e ∙ free_other (omega arith)
+        go (suc (suc r)) e = absurd (omega arith)

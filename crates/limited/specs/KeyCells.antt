@@ -1,42 +1,32 @@
 -- A number of a block of least keys, from the block to the right and the block above.
 --
--- In this order: a block outside the limits; what is asked, at the start and while the block is filled; no part is allowed, or the rest
--- is 1; from a rest of 2 on, where the two neighbours stand in the memory, and the key of each reader by the remainder of the rest by
--- three.
+-- In this order: a block outside the limits; what is asked, at the start and while the block is filled; no part is allowed, the point is
+-- outside the limits, or the rest is 1; from a rest of 2 on, where the two neighbours stand in the memory, and the key of each reader by
+-- the remainder of the rest by three.
 use Rattle.std.specs.Prelude.{◌≡◌, ◌≢◌, ◌⊎◌, Bool, cond, List, length, get_or}
 use Rattle.std.proofs.Math.Path.{refl, sym}
-use Rattle.std.proofs.Common.{◌∙◌, arith}
+use Rattle.std.proofs.Common.{◌∙◌, ⊎_elim, arith}
 use Rattle.std.proofs.Math.Bool.{true, false}
 use Prim.Native.Nat.{ℕ, zero, suc, ◌+◌, ◌-◌, ◌*◌, ◌/◌, ◌%◌, ◌≤◌, ◌<◌, min}
 use Rattle.chains.proofs.Members.{rises}
-use Rattle.best.specs.KeyTable.{no_key, letter_by}
+use Rattle.best.specs.KeyTable.{no_key, letter_by, Low}
 use Rattle.limited.specs.Table.{Block, Filled}
-use Rattle.limited.specs.TableLaws.{filled_as, lent_still, read_right, read_above}
-use Rattle.limited.specs.Cells.{key_in, cell_in, KeyAsked, BlockAsked}
+use Rattle.limited.specs.TableLaws.{filled_as, cell_still, read_right, read_above}
+use Rattle.limited.specs.Cells.{key_in, cell_in, CellAsked}
 use Rattle.limited.specs.KeyLaws.{key_at_most, key_outside, key_none, key_one, key_step}
 
 pub outside_filled : (costs : List ℕ) (A B b a m : ℕ) {j : ℕ} {entry l : List ℕ} → 1 ≤ m → (A < a) ⊎ (B < b)
     → Filled (λ f k. no_key) j entry l → Filled (key_in costs A B b a m) j entry l
 outside_filled costs A B b a m h o = filled_as (λ f k. sym (key_outside costs A B a b m f k h o))
 
-pub key_asked : {counting : Bool} {costs : List ℕ} {A B b a m up most : ℕ} {l : List ℕ} → counting ≡ false → a ≤ A → b ≤ B
-    → BlockAsked counting costs A B b a m up most l → KeyAsked costs A B b a m up most l
+pub key_asked : {counting : Bool} (costs : List ℕ) (A B : ℕ) {b a m up most : ℕ} {l : List ℕ} → counting ≡ false
+    → CellAsked (cell_in counting costs A B) b a m up most l → CellAsked (key_in costs A B) b a m up most l
 unfolding cell_in
-key_asked e ha hb q =
-    let p = rw e at q in
-    record { lent = p.lent; some_left = p.some_left; few = p.few; low = p.low; in_a = ha; in_b = hb }
+key_asked costs A B e q = let p = rw e at q in record { lent = p.lent; some_left = p.some_left; few = p.few }
 
-pub key_still : {g : Block} {costs : List ℕ} {A B b a m up most j : ℕ} {entry l : List ℕ} (k : ℕ)
-    → KeyAsked costs A B b a m up most entry → Filled g j entry l → k ≤ most → KeyAsked costs A B b a m up k l
-key_still k p f h =
-    record {
-      lent = lent_still p.lent f (omega arith);
-      some_left = p.some_left;
-      few = omega (arith, p.few);
-      low = p.low;
-      in_a = p.in_a;
-      in_b = p.in_b;
-    }
+pub key_still : {g : Block} (costs : List ℕ) (A B : ℕ) {b a m up most j : ℕ} {entry l : List ℕ} (k : ℕ)
+    → CellAsked (key_in costs A B) b a m up most entry → Filled g j entry l → k ≤ most → CellAsked (key_in costs A B) b a m up k l
+key_still costs A B = cell_still
 
 pub letter_a : (costs : List ℕ) (r : ℕ) → r < 2 → letter_by costs r ≡ get_or costs r 0
 unfolding letter_by
@@ -44,15 +34,20 @@ letter_a costs zero h = refl
 letter_a costs (suc zero) h = refl
 letter_a costs (suc (suc r)) h = absurd (omega arith)
 
-module _ {costs : List ℕ} {A B b a m up k : ℕ} {l : List ℕ} (p : KeyAsked costs A B b a m up k l) where
+module _ (costs : List ℕ) (A B : ℕ) {b a m up k : ℕ} {l : List ℕ} (p : CellAsked (key_in costs A B) b a m up k l) where
   abbrev key_here : Bool → ℕ
   key_here f = key_in costs A B b a m f k
 
   pub no_key_lem : (f : Bool) → k ≡ 0 → no_key ≡ key_here f
   no_key_lem f e = rw e (sym (key_none costs A B a b m f p.some_left))
 
-  pub last_key : (f : Bool) → 1 ≤ k → m ≡ 1 → get_or costs 4 0 ≡ key_here f
-  last_key f h e = sym (key_one costs A B a b m f k p.low e h p.in_a p.in_b)
+  -- No part is allowed, or the point is outside the limits.
+  pub no_word : (k ≡ 0) ⊎ ((A < a) ⊎ (B < b)) → (f : Bool) → no_key ≡ key_here f
+  no_word o f =
+      ⊎_elim (λ (e : k ≡ 0). no_key_lem f e) (λ (h : (A < a) ⊎ (B < b)). sym (key_outside costs A B a b m f k p.some_left h)) o
+
+  pub last_key : Low costs → (f : Bool) → 1 ≤ k → m ≡ 1 → a ≤ A → b ≤ B → get_or costs 4 0 ≡ key_here f
+  last_key low f h e ha hb = sym (key_one costs A B a b m f k low e h ha hb)
 
   module _ (one : 1 ≤ k) (two : 2 ≤ m) where
     abbrev beside : ℕ
@@ -67,8 +62,8 @@ module _ {costs : List ℕ} {A B b a m up k : ℕ} {l : List ℕ} (p : KeyAsked 
     pub right_within : 195 + k - m % 2 < length l
     right_within = omega (arith, p.lent.right_room two, p.few)
 
-    pub right_fits : half ≤ 2 * no_key
-    right_fits = omega (arith, right_key, key_at_most costs A B (suc a) b (m / 2) false (k - m % 2), p.low.each (m % 2))
+    pub right_fits : Low costs → half ≤ 2 * no_key
+    right_fits low = omega (arith, right_key, key_at_most costs A B (suc a) b (m / 2) false (k - m % 2), low.each (m % 2))
 
     pub above_within : (r : ℕ) → m % 3 ≡ r → r ≤ 1 → up + k < length l
     above_within r e h = omega (arith, p.lent.above_room two (omega arith), p.few)
@@ -115,3 +110,13 @@ module _ {costs : List ℕ} {A B b a m up k : ℕ} {l : List ℕ} (p : KeyAsked 
     pub free_zero : m % 3 ≡ 0 → min (key_here false) (get_or l (up + k) 0 + get_or costs 2 0) ≡ key_here true
     unfolding rises letter_by
     free_zero e = omega (arith, step false 0 e, step true 0 e, above_key (up + k) 0 e (omega arith) (omega arith))
+
+    -- Its key at both, in one form.
+    pub free_up : m % 3 ≢ 2
+        → min (min no_key half) (get_or l (up + k - m % 3) 0 + get_or costs (2 + m % 3) 0) ≡ key_here true
+    free_up ne = go (m % 3) refl
+      where
+        go : (r : ℕ) → m % 3 ≡ r → min (min no_key half) (get_or l (up + k - r) 0 + get_or costs (2 + r) 0) ≡ key_here true
+        go zero e = let z : up + k - 0 ≡ up + k = omega arith in rw (z, after_other (omega arith)) (free_zero e)
+        go (suc zero) e = after_one e ∙ free_other (omega arith)
+        go (suc (suc r)) e = absurd (omega arith)

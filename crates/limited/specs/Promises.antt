@@ -6,7 +6,7 @@
 -- count's with K of 64 or more (`counts_agree`); the number 0; it is 0 exactly where no chain has so few parts (`counted_none`); refusal 1.
 use Rattle.std.proofs.Math.Path.{◌≡◌, refl, ap}
 use Rattle.std.proofs.Common.{sym, ◌∙◌, arith}
-use Rattle.std.specs.Prelude.{◌↔◌, ◌⊎◌, List, [], ◌∷◌, map, ℕ, ◌^◌, ◌≤◌, ◌<◌, length}
+use Rattle.std.specs.Prelude.{◌↔◌, ◌⊎◌, List, [], ◌∷◌, Result, Ok, Err, map, ℕ, ◌^◌, ◌≤◌, ◌<◌, length}
 use Rattle.std.proofs.Math.Option.{Option, none, some}
 use Rattle.lent.specs.Lent.{filled, scratch_size, Lends}
 use Rattle.lent.specs.LentLaws.{scratch_little, scratch_enough}
@@ -15,14 +15,14 @@ use Rattle.chains.specs.Best.{Prices, additions, price, Limits, cut, Within, Non
 use Rattle.chains.proofs.BestLaws.{cheapest_chain_lem, cheapest_none, none_cheaper, same_cost, first_of_zero, first_cut}
 use Rattle.chains.proofs.PartLimit.{count_up_to_all, count_up_to_zero, count_up_to_none}
 use Rattle.parts.specs.Parts.{part_number}
-use Rattle.counting.specs.declared.Counted.TheVariants as counted
+use Rattle.refusals.specs.declared.Refusal.{Refusal}
+use Rattle.refusals.specs.declared.Refusal.TheVariants.{LittleLent, NoChainFits}
 use Rattle.counting.specs.TableCount.{counted_of}
 use Rattle.counting.specs.TableLaws.{counted_served}
 use Rattle.ranking.specs.Services.{refused, gives, lent_of, places_left}
 use Rattle.ranking.specs.Refusals.{lent_too_little}
 use Rattle.ranking.specs.RoundTrips.{lent_all}
 use Rattle.best.specs.declared.Chosen.{Chosen}
-use Rattle.best.specs.declared.Chosen.TheVariants as chosen
 use Rattle.best.specs.Chosen.{or_none, best_outcome, chosen_of}
 use Rattle.best.specs.Demand3.{NoneTold}
 use Rattle.limited.specs.Services.{table_size, cheapest_outcome, counted_up_to}
@@ -38,9 +38,9 @@ pub record CheapestTold (n : ℕ) (lim : Limits) (π : Prices) (entry exit : Lis
   pub stands : exit ≡ filled 64 (map part_number chain) entry
 
 -- What is asked of an answer, and of the places at exit, where `entry` stood in them.
-abbrev pub Meets : ℕ → Limits → Prices → List ℕ → List ℕ → Chosen → Type 0
-Meets n lim π entry exit (chosen.Chain k p) = CheapestTold n lim π entry exit k p
-Meets n lim π entry exit (chosen.Refused r) = NoneTold n lim entry exit r
+abbrev pub Meets : ℕ → Limits → Prices → List ℕ → List ℕ → Result Chosen Refusal → Type 0
+Meets n lim π entry exit (Ok told) = CheapestTold n lim π entry exit told.k told.price
+Meets n lim π entry exit (Err r) = NoneTold n lim entry exit r
 
 module _ (n : ℕ) (lim : Limits) (π : Prices) where
   -- What is given is the cheapest chain of n within the limits, and that is given;
@@ -56,14 +56,14 @@ module _ (n : ℕ) (lim : Limits) (π : Prices) where
       go (some c') e = let same : c' ≡ c = cc in ap some same
 
   -- it is refused with 5 exactly where no chain is within them.
-  pub refused_none : (cheapest_outcome n lim (price π) ≡ refused 5) ↔ NoneFits n lim
+  pub refused_none : (cheapest_outcome n lim (price π) ≡ refused NoChainFits) ↔ NoneFits n lim
   unfolding cheapest_outcome or_none
   refused_none = (
     λ e. (cheapest_none n lim (price π)).0 (go (cheapest_chain n lim (price π)) e),
     λ f. rw ((cheapest_none n lim (price π)).1 f),
   )
     where
-      go : (o : Option (List Part)) → or_none n o ≡ refused 5 → o ≡ none
+      go : (o : Option (List Part)) → or_none n o ≡ refused NoChainFits → o ≡ none
       go none e = refl
       go (some c) e = let z : ◌≡◌ {A = ℕ} 0 1 = cc in absurd (omega arith)
 
@@ -115,38 +115,38 @@ no_prices n lim π free = rw (same_cost n lim (price π) (λ c c' h h'. nothing 
 
 -- Refusal 1, exactly where too little is lent.
 pub cheapest_too_little : (n : ℕ) (lim : Limits) (π : Prices) (s p : List ℕ)
-    → (lent_of table_size s p (cheapest_outcome n lim (price π)) ≡ refused 1) ↔ ((length s < table_size) ⊎ (length p < 64))
+    → (lent_of table_size s p (cheapest_outcome n lim (price π)) ≡ refused LittleLent) ↔ ((length s < table_size) ⊎ (length p < 64))
 unfolding cheapest_outcome or_none
 cheapest_too_little n lim π s p =
     lent_too_little table_size s p (cheapest_outcome n lim (price π)) (never (cheapest_chain n lim (price π)))
   where
-    never : (o : Option (List Part)) → or_none n o ≡ refused 1 → ⊥
-    never none e = let z : ◌≡◌ {A = ℕ} 5 1 = cc in absurd (omega arith)
+    never : (o : Option (List Part)) → or_none n o ≡ refused LittleLent → ⊥
+    never none e = let z : ◌≡◌ {A = ℕ} 0 1 = cc in absurd (omega arith)
     never (some c) e = let z : ◌≡◌ {A = ℕ} 0 1 = cc in absurd (omega arith)
 
 -- ---- the count
 
 module _ (K n : ℕ) (s : List ℕ) (h : table_size ≤ length s) where
-  pub up_to_served : counted_up_to K n s ≡ counted.Count (count_up_to K n)
+  pub up_to_served : counted_up_to K n s ≡ Ok (count_up_to K n)
   unfolding counted_up_to
   up_to_served = rw (scratch_enough s h)
 
   -- With K of 64 or more it is the table count's answer.
   pub counts_agree : n < 2 ^ 64 → 64 ≤ K → (t : List ℕ) → scratch_size ≤ length t → counted_up_to K n s ≡ counted_of n t
   counts_agree fits k t room =
-      up_to_served ∙ ap counted.Count (count_up_to_all K n fits k) ∙ sym (counted_served n t room)
+      up_to_served ∙ ap Ok (count_up_to_all K n fits k) ∙ sym (counted_served n t room)
 
   -- It is 0 exactly where no chain of n has at most K parts.
-  pub counted_none : (counted_up_to K n s ≡ counted.Count 0) ↔ ((c : List Part) → ChainOf n c → length c ≤ K → ⊥)
+  pub counted_none : (counted_up_to K n s ≡ Ok 0) ↔ ((c : List Part) → ChainOf n c → length c ≤ K → ⊥)
   counted_none = (
     λ e. (count_up_to_none K n).0 (let z : count_up_to K n ≡ 0 = cc (up_to_served, e) in z),
-    λ f. up_to_served ∙ ap counted.Count ((count_up_to_none K n).1 f),
+    λ f. up_to_served ∙ ap Ok ((count_up_to_none K n).1 f),
   )
 
 -- The number 0 has one chain for every K.
-pub zero_counted : (K : ℕ) (s : List ℕ) → table_size ≤ length s → counted_up_to K 0 s ≡ counted.Count 1
-zero_counted K s h = up_to_served K 0 s h ∙ ap counted.Count (count_up_to_zero K)
+pub zero_counted : (K : ℕ) (s : List ℕ) → table_size ≤ length s → counted_up_to K 0 s ≡ Ok 1
+zero_counted K s h = up_to_served K 0 s h ∙ ap Ok (count_up_to_zero K)
 
-pub up_to_refused : (K n : ℕ) (s : List ℕ) → length s < table_size → counted_up_to K n s ≡ counted.Refused 1
+pub up_to_refused : (K n : ℕ) (s : List ℕ) → length s < table_size → counted_up_to K n s ≡ Err LittleLent
 unfolding counted_up_to
 up_to_refused K n s h = rw (scratch_little s h)

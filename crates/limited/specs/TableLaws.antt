@@ -5,7 +5,7 @@
 -- begins at it; reading a cell.
 use Rattle.std.specs.Prelude.{◌≡◌, refl, Bool, true, false, List, ℕ, zero, suc, ◌+◌, ◌-◌, ◌*◌, ◌^◌, ◌/◌, ◌%◌, ◌≤◌, ◌<◌, T, leb, length, get_or, drop, set}
 use Rattle.std.proofs.Common.{sym, ap, ◌∙◌, subst₂, ⊎_elim, eq-or-lt_of_le, le-div_iff_mul-le, mul-le-mul_right, lt_of_not-le, pow-suc, arith, leb→le, length-set, length-drop, pow_mono, pow_pos, get_or-set_same, get_or-set_other, drop-set-lt, get_or-drop, drop-drop}
-use Rattle.std.proofs.Math.Nat.{one-le-pow}
+use Rattle.std.proofs.Math.Nat.{one-le-pow, pow-le-pow_right}
 use borrow.Rule.Slice.PartMut.{mid_of, put_mid, same_len_mid}
 use Rattle.lent.specs.Parts.{part_lent, part_back, kept_behind}
 use Rattle.lent.specs.LentLaws.{used_none}
@@ -13,6 +13,7 @@ use Rattle.grid.specs.Rests.{third_of_rest, half_of_rest, rest_dead, row_above, 
 use Rattle.parts.proofs.Tests.{below, at_below}
 use Rattle.limited.specs.Services.{table_size}
 use Rattle.limited.specs.Table.{Block, UpTo, BlockLent, Filled, Row, RowFrom, RowLent, RowFilled, width, start, RowsFrom, TableFilled}
+use Rattle.limited.specs.Cells.{CellAsked}
 
 -- ---- a block
 
@@ -85,6 +86,11 @@ lent_still {up = up} {entry = entry} {l = l} r f h =
     behind =
         let s : up ≡ 130 + (up - 130) = omega (arith, r.far) in
         rw (s, ← drop-drop (up - 130) 130 l, ← drop-drop (up - 130) 130 entry, f.later)
+
+-- A cell may be asked for while its block is filled.
+pub cell_still : {R : ℕ → Row} {g : Block} {b a m up most j : ℕ} {entry l : List ℕ} (k : ℕ) → CellAsked R b a m up most entry
+    → Filled g j entry l → k ≤ most → CellAsked R b a m up k l
+cell_still k p f h = record { lent = lent_still p.lent f (omega arith); some_left = p.some_left; few = omega (arith, p.few) }
 
 -- Reading the two neighbours, at the place i.
 module _ {right above : Block} {m up top : ℕ} {l : List ℕ} (r : BlockLent right above m up top l) (two : 2 ≤ m) (i k : ℕ) (h : k < top) where
@@ -208,12 +214,17 @@ point_within n a b h k left =
     let w : 2 ^ 64 ≤ 2 ^ width b * 3 ^ b = leb→le (2 ^ 64) (2 ^ width b * 3 ^ b) (at_below 41 wide all_wide b k) in
     lt_of_not-le (λ g. omega (arith, mul-le-mul_right (3 ^ b) (pow_mono g)))
 
+-- A power of three is below 2^64 in each row.
+pub three_fits : (b : ℕ) → b < 41 → 3 ^ b < 2 ^ 64
+three_fits b h = let p : 3 ^ b ≤ 3 ^ 40 = pow-le-pow_right {n = 3} (omega arith) {i = b} {j = 40} (omega arith) in omega arith
+
 -- ---- the table
 
 pub rows_none : (G : ℕ → Row) (n top : ℕ) (l : List ℕ) → TableFilled G n top 41 l l
 rows_none G n top l = record { rows = record { row = λ i h k. absurd (omega arith) }; used = used_none }
 
--- Row i is next, where those from k = i + 1 on are filled. It begins at `first`, its rest is m, and it has `up` numbers.
+-- Row i is next, where those from k = i + 1 on are filled. It begins at `first`, its rest is m, it has `up` numbers, and `r` stand from
+-- there on.
 module _ {G : ℕ → Row} {n top : ℕ} {entry l : List ℕ} (small : n < 2 ^ 64) (size : table_size ≤ length entry) (i k : ℕ) (e : k ≡ suc i)
     (h : k ≤ 41) (f : TableFilled G n top k entry l) where
   ends : (start (suc i) ≡ start i + width i) × (start (suc i) ≤ 1344)
@@ -222,7 +233,8 @@ module _ {G : ℕ → Row} {n top : ℕ} {entry l : List ℕ} (small : n < 2 ^ 6
   pub row_room : 130 * start i + 130 * width i ≤ length l
   row_room = omega (arith, ends, f.used.same)
 
-  module _ (first m up : ℕ) (place : first ≡ 130 * start i) (is : m ≡ n / 3 ^ i) (has : up ≡ 130 * width i) where
+  module _ (first m up : ℕ) {r : ℕ} (place : first ≡ 130 * start i) (is : m ≡ n / 3 ^ i) (has : up ≡ 130 * width i)
+      (behind : r ≡ length l - first) where
     within : first ≤ length l
     within = omega (arith, row_room)
 
@@ -236,9 +248,9 @@ module _ {G : ℕ → Row} {n top : ℕ} {entry l : List ℕ} (small : n < 2 ^ 6
         (q, point_within n a (suc i) small q p)
 
     -- The part that it is lent.
-    pub row_lent : RowLent (G (suc i)) m up top (mid_of first (length l - first) l)
+    pub row_lent : RowLent (G (suc i)) m up top (mid_of first r l)
     row_lent =
-        rw (part_lent first l within)
+        rw (behind, part_lent first l within)
         (record {
           room = λ a left.
               let w = point_within n a i small (omega arith) (rw (← is) left) in omega (arith, row_room, length-drop first l);
@@ -257,17 +269,21 @@ module _ {G : ℕ → Row} {n top : ℕ} {entry l : List ℕ} (small : n < 2 ^ 6
         })
 
     -- It comes back filled.
-    pub row_more : (part : List ℕ) → RowFilled (G i) m up top 0 (mid_of first (length l - first) l) part
-        → TableFilled G n top i entry (put_mid first (length l - first) l part)
-    row_more part g =
-        record {
+    pub row_more : (part : List ℕ) → RowFilled (G i) m up top 0 (mid_of first r l) part
+        → TableFilled G n top i entry (put_mid first r l part)
+    row_more part g' =
+        rw behind
+        (record {
           rows = record { row = λ j p q. ⊎_elim (λ (s : i ≡ j). here j s) (λ (s : i < j). there j s q) (eq-or-lt_of_le p) };
           used = record {
             same = same_len_mid first (length l - first) l part g.same ∙ f.used.same;
             later = kept_behind first l within up table_size part g.later (omega (arith, ends)) ∙ f.used.later;
           };
-        }
+        })
       where
+        g : RowFilled (G i) m up top 0 (mid_of first (length l - first) l) part
+        g = rw behind at g'
+
         l' : List ℕ
         l' = put_mid first (length l - first) l part
 

@@ -1,7 +1,7 @@
 -- The walk along the table of least keys that finds the cheapest word: what it asks and gives. Definitions only; the laws are in WalkLaws.
 --
 -- The table is one of keys (Cells). `most` is how many parts the whole word may have.
-use Rattle.std.specs.Prelude.{◌≡◌, Bool, true, false, List, ℕ, suc, ◌+◌, ◌-◌, ◌*◌, ◌/◌, ◌%◌, ◌^◌, ◌≤◌, ◌<◌, length}
+use Rattle.std.specs.Prelude.{◌≡◌, Bool, true, List, ℕ, suc, ◌+◌, ◌-◌, ◌*◌, ◌/◌, ◌%◌, ◌^◌, ◌≤◌, ◌<◌, length}
 use Rattle.std.proofs.Math.Option.{Option, some}
 use Rattle.chains.specs.Words.{Word}
 use Rattle.chains.proofs.Marks.{point}
@@ -11,7 +11,7 @@ use Rattle.grid.specs.Grid.{rest_at}
 use Rattle.best.specs.KeyTable.{no_key, costs_by, Low, third_key}
 use Rattle.limited.specs.Services.{table_size}
 use Rattle.limited.specs.Table.{RowsFrom, start}
-use Rattle.limited.specs.Cells.{key_in, cell_in}
+use Rattle.limited.specs.Cells.{key_in}
 use Rattle.limited.specs.declared.walk.Walk.{Walk}
 
 -- The cheapest word for a reader at the point (a, b) and the rest m, with k parts still allowed, if there is one.
@@ -20,10 +20,11 @@ cheap_from costs A B f a b k m = best_on (limited_by A B) (costs_by costs) (poin
 
 -- The table of keys stands in the memory.
 pub record Keyed (costs : List ℕ) (A B most n : ℕ) (scratch : List ℕ) : Type 0 where
+  pub small : n < 2 ^ 64
   pub size : table_size ≤ length scratch
   pub few : most < 65
   pub low : Low costs
-  pub table : RowsFrom (cell_in false costs A B) n (suc most) 0 scratch
+  pub table : RowsFrom (key_in costs A B) n (suc most) 0 scratch
 
 -- The letters `word` are left of the letters `whole`; x has the bits of those before them, as f gives them, and `letter` is the bit of the
 -- first that is left.
@@ -47,8 +48,7 @@ pub record Walked (costs : List ℕ) (A B most n : ℕ) (w : Walk) : Type 0 wher
   pub marking : FirstBits mark whole word w.letter w.marks
 
 -- What a letter more asks: another is left after it.
-pub record StepAsked (costs : List ℕ) (A B most n : ℕ) (scratch : List ℕ) (w : Walk) : Type 0 where
-  pub keys : Keyed costs A B most n scratch
+pub record StepAsked (costs : List ℕ) (A B most n : ℕ) (w : Walk) : Type 0 where
   pub walked : Walked costs A B most n w
   pub more : 2 ≤ w.rest
 
@@ -63,8 +63,7 @@ third_of costs A B w =
     third_key costs w.free (w.rest % 3) (key_in costs A B (suc w.b) w.a (w.rest / 3) true (w.left - w.rest % 3))
 
 -- What the whole walk asks: that something is left, and that there is a word.
-pub record WalkStart (costs : List ℕ) (A B most n : ℕ) (scratch : List ℕ) : Type 0 where
-  pub keys : Keyed costs A B most n scratch
+pub record WalkStart (costs : List ℕ) (A B most n : ℕ) : Type 0 where
   pub some_left : 1 ≤ n
   pub found : key_in costs A B 0 0 n true most < no_key
 

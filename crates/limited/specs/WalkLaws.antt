@@ -24,7 +24,7 @@ use Rattle.grid.specs.Rests.{rest_origin, rest_right, rest_up, point_bounds}
 use Rattle.best.specs.KeyTable.{no_key, letter_by, costs_by, third_key}
 use Rattle.limited.specs.Table.{start, width}
 use Rattle.limited.specs.TableLaws.{start_next, start_low, point_within, read_free, read_after}
-use Rattle.limited.specs.Cells.{key_in, cell_in}
+use Rattle.limited.specs.Cells.{key_in}
 use Rattle.limited.specs.KeyLaws.{state_right, state_up, key_at_most, key_none, key_step}
 use Rattle.limited.specs.KeyCells.{letter_a}
 use Rattle.limited.specs.Walk.{cheap_from, Keyed, FirstBits, Walked, StepAsked, Stepped, third_of, WalkStart, Spelled}
@@ -57,8 +57,11 @@ bits_last f whole word letter x one e t =
 
 -- ---- a step
 
-module _ {costs : List ℕ} {A B most n : ℕ} {scratch : List ℕ} {w : Walk} (fits : n < 2 ^ 64)
-    (s : StepAsked costs A B most n scratch w) where
+module _ {costs : List ℕ} {A B most n : ℕ} {scratch : List ℕ} {w : Walk} (keys : Keyed costs A B most n scratch)
+    (s : StepAsked costs A B most n w) where
+  fits : n < 2 ^ 64
+  fits = keys.small
+
   abbrev a : ℕ
   a = w.a
 
@@ -109,7 +112,7 @@ module _ {costs : List ℕ} {A B most n : ℕ} {scratch : List ℕ} {w : Walk} (
         omega (arith, row_is, low_point, s.walked.block),
         omega (arith, row_is, s.walked.block),
         some_allowed,
-        omega (arith, s.walked.few, s.keys.few),
+        omega (arith, s.walked.few, keys.few),
         l,
         s.walked.rising.few,
         s.walked.marking.few,
@@ -120,15 +123,14 @@ module _ {costs : List ℕ} {A B most n : ℕ} {scratch : List ℕ} {w : Walk} (
   half_here = letter_by costs (rest % 2) + key_in costs A B b (suc a) (rest / 2) false (k - rest % 2)
 
   pub right_in_lem : w.at + 195 + k - rest % 2 < length scratch
-  right_in_lem = omega (arith, row_is, s.walked.block, s.keys.size, bounds)
+  right_in_lem = omega (arith, row_is, s.walked.block, keys.size, bounds)
 
   beside_is : get_or scratch (w.at + 195 + k - rest % 2) 0 ≡ key_in costs A B b (suc a) (rest / 2) false (k - rest % 2)
-  unfolding cell_in
   beside_is =
       let i : w.at + 195 + k - rest % 2 ≡ 130 * (start b + (a + 1)) + 65 + (k - rest % 2) =
       omega (arith, some_allowed, s.walked.block) in
       rw i
-      (read_after s.keys.table (a + 1) b (k - rest % 2) (omega arith) low_point.1 right_left (omega (arith, s.walked.few))
+      (read_after keys.table (a + 1) b (k - rest % 2) (omega arith) low_point.1 right_left (omega (arith, s.walked.few))
       ∙ rw (rest_right, add-one, ← s.walked.here))
 
   pub half_is : get_or scratch (w.at + 195 + k - rest % 2) 0 + get_or costs (rest % 2) 0 ≡ half_here
@@ -136,7 +138,7 @@ module _ {costs : List ℕ} {A B most n : ℕ} {scratch : List ℕ} {w : Walk} (
 
   pub half_fits : get_or scratch (w.at + 195 + k - rest % 2) 0 + get_or costs (rest % 2) 0 ≤ 2 * no_key
   half_fits =
-      omega (arith, beside_is, key_at_most costs A B (suc a) b (rest / 2) false (k - rest % 2), s.keys.low.each (rest % 2))
+      omega (arith, beside_is, key_at_most costs A B (suc a) b (rest / 2) false (k - rest % 2), keys.low.each (rest % 2))
 
   -- Where b may rise, something is left in the row above.
   module _ (may : rest % 3 ≤ 1) where
@@ -154,16 +156,15 @@ module _ {costs : List ℕ} {A B most n : ℕ} {scratch : List ℕ} {w : Walk} (
     )
 
     pub above_in : w.at + 130 * width b + k < length scratch
-    above_in = omega (arith, up_is, s.walked.block, s.keys.size, bounds)
+    above_in = omega (arith, up_is, s.walked.block, keys.size, bounds)
 
     above_is : (r : ℕ) → rest % 3 ≡ r
         → get_or scratch (w.at + 130 * width b + k - r) 0 ≡ key_in costs A B (suc b) a (rest / 3) true (k - r)
-    unfolding cell_in
     above_is r e =
         let i : w.at + 130 * width b + k - r ≡ 130 * (start (b + 1) + a) + (k - r) =
         omega (arith, some_allowed, s.walked.block, up_is) in
         rw i
-        (read_free s.keys.table a (b + 1) (k - r) (omega arith) above_row above_left (omega (arith, s.walked.few))
+        (read_free keys.table a (b + 1) (k - r) (omega arith) above_row above_left (omega (arith, s.walked.few))
         ∙ rw (rest_up, add-one, ← s.walked.here))
 
     pub above_fits : (r : ℕ) → rest % 3 ≡ r → get_or scratch (w.at + 130 * width b + k - r) 0 ≤ no_key
@@ -337,13 +338,13 @@ module _ {costs : List ℕ} {A B most n : ℕ} {scratch : List ℕ} {w : Walk} (
 -- The key of the cheapest word of n stands in the first block.
 pub first_key : {costs : List ℕ} {A B most n : ℕ} {scratch : List ℕ} → Keyed costs A B most n scratch → 1 ≤ n
     → get_or scratch most 0 ≡ key_in costs A B 0 0 n true most
-unfolding start cell_in
+unfolding start
 first_key {costs} {A} {B} {most} {n} {scratch} t h =
     ap (λ (i : ℕ). get_or scratch i 0) {x = most} {y = 0 + most} (omega arith)
     ∙ read_free t.table 0 0 most (omega arith) (omega arith) (rw rest_origin h) (omega arith)
     ∙ ap (λ (x : ℕ). key_in costs A B 0 0 x true most) (rest_origin n)
 
-module _ {costs : List ℕ} {A B most n : ℕ} {scratch : List ℕ} (s : WalkStart costs A B most n scratch) where
+module _ {costs : List ℕ} {A B most n : ℕ} (s : WalkStart costs A B most n) where
   pub walk_start : Walked costs A B most n (record {
     a = 0;
     b = 0;

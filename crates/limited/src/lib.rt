@@ -16,8 +16,7 @@ ghost use Rattle.best.specs.Chosen.{limits_of, prices_of, chosen_of};
 ghost use Rattle.limited.specs.Services.{table_size, cheapest_outcome, counted_up_to};
 
 use best::{Chosen, Limits, Prices};
-use choosing::Choice;
-use counting::Counted;
+use refusals::Refusal;
 
 // How many numbers both services must be lent (`table_size` in specs/Services.antt).
 pub const TABLE: usize = 174720;
@@ -34,7 +33,7 @@ pub fn cheapest_chain(
     prices: Prices,
     scratch: &mut [u64],
     places: &mut [u16],
-) -> Chosen
+) -> Result<Chosen, Refusal>
     ensures answer { result
         ≡ chosen_of (price (prices_of prices))
         (lent_of table_size scratch.old places.old (cheapest_outcome n (limits_of limits) (price (prices_of prices)))) }
@@ -45,42 +44,30 @@ pub fn cheapest_chain(
     ensures scratch { scratch.new
         ≡ memory_left table_size (too_few table_size 64 scratch.old places.old) scratch.old }
 {
-    if scratch.len() < TABLE {
-        return Chosen::Refused(1);
-    }
     if places.len() < 64 {
-        return Chosen::Refused(1);
+        return Err(Refusal::LittleLent);
     }
-    match choosing::choose(n, limits, prices, scratch) {
-        Choice::Word {
-            rises,
-            marks,
-            price,
-        } => {
-            lent::clear_first(scratch, TABLE);
-            let k = words::put_parts(rises, marks, places);
-            Chosen::Chain { k, price }
-        }
-        Choice::Nothing => {
-            lent::clear_first(scratch, TABLE);
-            Chosen::Refused(5)
-        }
-    }
+    let Some(first) = scratch.first_chunk_mut::<TABLE>() else {
+        return Err(Refusal::LittleLent);
+    };
+    let choice = choosing::choose(n, limits, prices, first);
+    *first = [0; TABLE];
+    best::tell_choice(choice, places)
 }
 
 // How many chains of n have at most `parts` parts: 0 where there is none. The number 0 has one, the empty chain.
 //
 // Lent at least `TABLE` numbers, with any contents. Refuses with 1 where fewer are lent, and nothing is touched. Otherwise the first
 // `TABLE` numbers are zero.
-pub fn count_up_to(n: u64, parts: u8, scratch: &mut [u64]) -> Counted
+pub fn count_up_to(n: u64, parts: u8, scratch: &mut [u64]) -> Result<u64, Refusal>
     ensures answer { result ≡ counted_up_to parts n scratch.old }
     ensures scratch { scratch.new
         ≡ memory_left table_size (fewer table_size scratch.old) scratch.old }
 {
-    if scratch.len() < TABLE {
-        return Counted::Refused(1);
-    }
-    let count = choosing::count(n, parts, scratch);
-    lent::clear_first(scratch, TABLE);
-    Counted::Count(count)
+    let Some(first) = scratch.first_chunk_mut::<TABLE>() else {
+        return Err(Refusal::LittleLent);
+    };
+    let count = choosing::count(n, parts, first);
+    *first = [0; TABLE];
+    Ok(count)
 }

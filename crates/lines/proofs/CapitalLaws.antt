@@ -3,10 +3,9 @@
 -- is no letter. So the replies are the same where the reply to each line is.
 --
 -- In this order: a part of a text; one line; the lines of a file; the replies.
-use Rattle.std.specs.Prelude.{◌≡◌, List, [], ◌∷◌, map, eqb, take, drop}
+use Rattle.std.specs.Prelude.{◌≡◌, Option, Some, None, List, [], ◌∷◌, map, eqb, take, drop}
 use Rattle.std.proofs.Math.Path.{refl}
 use Rattle.std.proofs.Common.{sym, ap, ◌∙◌, arith, ne_eqb}
-use Rattle.std.proofs.Math.Option.{Option, none, some}
 use Prim.Native.Nat.{ℕ, zero, suc, ◌+◌, ◌-◌, ◌*◌}
 use Rattle.std.proofs.lemmas.List.{length-map}
 use Rattle.digits.specs.Digits.{capital, capitals}
@@ -54,8 +53,8 @@ module _ (line : List ℕ) where
 
   kind_shape_of_capitals : (o : Option Kind) → shape_of_kind (capitals line) o ≡ shape_of_kind line o
   unfolding shape_of_kind
-  kind_shape_of_capitals none = refl
-  kind_shape_of_capitals (some k) = rw (length-map line capital, bytes_of_capitals k)
+  kind_shape_of_capitals None = refl
+  kind_shape_of_capitals (Some k) = rw (length-map line capital, bytes_of_capitals k)
 
   pub shape_of_capitals : shape_of (capitals line) ≡ shape_of line
   unfolding shape_of
@@ -64,8 +63,8 @@ module _ (line : List ℕ) where
 
   kind_items_of_capitals : (width : ℕ) (o : Option Kind) → items_of_kind width (capitals line) o ≡ items_of_kind width line o
   unfolding items_of_kind
-  kind_items_of_capitals width none = refl
-  kind_items_of_capitals width (some k) = rw (length-map line capital, bytes_of_capitals k, items_of_capitals k)
+  kind_items_of_capitals width None = refl
+  kind_items_of_capitals width (Some k) = rw (length-map line capital, bytes_of_capitals k, items_of_capitals k)
 
   pub read_of_capitals : (width places : ℕ) → read_items width (capitals line) places ≡ read_items width line places
   unfolding read_items

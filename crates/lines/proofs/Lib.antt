@@ -1,6 +1,5 @@
 -- The laws that the proofs of this crate share.
 pub mod Fields
-pub mod CallLaws
 pub mod LineLaws
 pub mod StreamLaws
 pub mod CapitalLaws

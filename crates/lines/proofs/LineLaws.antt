@@ -1,11 +1,14 @@
 -- Theory of lines.
--- In order: one field; several fields; kinds and their bytes; lengths; which lines are refused, and which are fit; the answer for a
--- shape; a line's first 515 characters; reading the items of a line.
-use Rattle.std.specs.Prelude.{◌≡◌, refl, ◌↔◌, Bool, true, false, cond, ◌&&◌, ◌||◌, List, [], ◌∷◌, ◌++◌, eqb, ltb, leb, take, drop, get_or}
+-- In order: one field; several fields; kinds and their bytes; lengths; which lines are refused, and which are fit; a shape in
+-- numbers; a line's first 515 characters; reading the items of a line.
+use Rattle.std.specs.Prelude.{◌≡◌, refl, ◌↔◌, Bool, true, false, cond, Option, Some, None, Result, Ok, Err, ok_or, ◌&&◌, ◌||◌, List, [], ◌∷◌, ◌++◌, eqb, ltb, leb, take, drop, get_or}
 use Rattle.std.proofs.Common.{sym, ap, ◌∙◌, mul-suc, mul-zero, mul-add, add-zero, add_assoc, add_comm, length-take, length-drop, drop_of_length-le, take_all, take-add, drop-drop}
 use Rattle.std.proofs.Math.Bool.{or-true, and-eq-true_iff}
-use Rattle.std.proofs.Math.Option.{Option, none, some}
+use Rattle.refusals.specs.Refusals.{number_of as refusal_number}
+use Rattle.refusals.specs.declared.Refusal.{Refusal}
+use Rattle.refusals.specs.declared.Refusal.TheVariants.{LittleLent, BadLength, NoDigit, UnknownKind}
 use Prim.Native.Nat.{ℕ, zero, suc, ◌+◌, ◌*◌, ◌-◌, ◌%◌, ◌^◌, ◌≤◌, ◌<◌}
+use native.Mathlib.Nat.{mul-le-mul}
 use Rattle.std.proofs.Math.Numerals.{add-one, add-two, add-three}
 use native.Mathlib.Omega.{arith}
 use borrow.Author.Tests.{eqb-true, eqb-false, eq-eqb, ne_eqb, ltb-true, ltb-false, lt-ltb, le-ltb, leb-true}
@@ -14,12 +17,11 @@ use Rattle.std.proofs.Math.Seq.{take-nil, drop-cons}
 use Rattle.lent.specs.LentLaws.{neither}
 use Rattle.digits.specs.Digits.{value_or0, all_digits, number_of, read_from}
 use Rattle.digits.proofs.DigitLaws.{number_append, number_below, number_fits}
+use Rattle.refusals.proofs.Numbers.{same_number}
 use Rattle.lines.specs.Kinds.{Kind, count_line, best_line, at_line, record_line, word_line, next_line, run_line}
 use Rattle.lines.specs.Kinds.{tree_line, to_tree_line, Row, row_of, kinds, kind_among, kind_of}
-use Rattle.lines.specs.Lines.{field, fields, bytes_in, items_in, Shape, unfit, fit, bad_length, Proper, shape_of_kind, shape_of}
-use Rattle.lines.specs.Lines.{shape_code}
-use Rattle.lines.specs.Lines.{Fit, unread, read, items_of_kind, read_items}
-use Rattle.lines.specs.declared.Shape.TheVariants as answer
+use Rattle.lines.specs.Lines.{field, fields, bytes_in, items_in, bad_length, Proper, shape_of_kind, shape_of, shape_code}
+use Rattle.lines.specs.Lines.{Fit, items_of_kind, read_items}
 
 -- ---- one field
 
@@ -96,7 +98,7 @@ fields_suc line at width (suc k) =
 -- ---- kinds and their bytes
 
 -- Every kind is found by its byte. The one law that goes kind by kind.
-pub kind_byte : (k : Kind) → kind_of (row_of k).byte ≡ some k
+pub kind_byte : (k : Kind) → kind_of (row_of k).byte ≡ Some k
 unfolding kind_of kind_among kinds row_of
 kind_byte count_line = refl
 kind_byte best_line = refl
@@ -114,13 +116,13 @@ passes p [] = true
 passes p (k ∷ ks) = p k && passes p ks
 
 -- The kind that is found has the byte, and passes each test that all pass.
-found : (p : Kind → Bool) (ks : List Kind) (b : ℕ) (k : Kind) → kind_among ks b ≡ some k
+found : (p : Kind → Bool) (ks : List Kind) (b : ℕ) (k : Kind) → kind_among ks b ≡ Some k
     → ((row_of k).byte ≡ b) × (passes p ks ≡ true → p k ≡ true)
 unfolding kind_among passes
-found p [] b k e = let z : ◌≡◌ {A = ℕ} 0 1 = cc in absurd (omega arith)
+found p [] b k e = cc
 found p (j ∷ ks) b k e = go (found p ks b k) (eqb b (row_of j).byte) refl
   where
-    go : (kind_among ks b ≡ some k → ((row_of k).byte ≡ b) × (passes p ks ≡ true → p k ≡ true))
+    go : (kind_among ks b ≡ Some k → ((row_of k).byte ≡ b) × (passes p ks ≡ true → p k ≡ true))
         → (t : Bool) → eqb b (row_of j).byte ≡ t → ((row_of k).byte ≡ b) × (p j && passes p ks ≡ true → p k ≡ true)
     go later true h =
         let same : j ≡ k = cc (rw (h, kind_among) at e) in
@@ -129,7 +131,7 @@ found p (j ∷ ks) b k e = go (found p ks b k) (eqb b (row_of j).byte) refl
         let r = later (rw (h, kind_among) at e) in
         (r.0, λ q. r.1 ((and-eq-true_iff (p j) (passes p ks)).0 q).1)
 
-pub byte_kind : (b : ℕ) (k : Kind) → kind_of b ≡ some k → (row_of k).byte ≡ b
+pub byte_kind : (b : ℕ) (k : Kind) → kind_of b ≡ Some k → (row_of k).byte ≡ b
 unfolding kind_of
 byte_kind b k e = (found (λ (j : Kind). true) kinds b k e).0
 
@@ -138,19 +140,28 @@ pub each_kind : (p : Kind → Bool) → passes p kinds ≡ true → (k : Kind) �
 unfolding kind_of
 each_kind p t k = (found p kinds (row_of k).byte k (kind_byte k)).1 t
 
+-- What the code answers for a byte says whether there is a kind with it.
+pub kind_told : (o : Option Kind) (k : Kind) → ok_or o UnknownKind ≡ Ok k → o ≡ Some k
+kind_told None k e = cc
+kind_told (Some j) k e = cc
+
+pub kind_refused : (o : Option Kind) (r : Refusal) → ok_or o UnknownKind ≡ Err r → (o ≡ None) × (r ≡ UnknownKind)
+kind_refused None r e = (refl, cc)
+kind_refused (Some j) r e = cc
+
 -- The byte is that of none of some kinds: what a match over their bytes, in this order, leaves to its last arm.
 abbrev pub Left : Type 0 → List Kind → ℕ → Type 0
 Left A [] b = A
 Left A (k ∷ ks) b = Left (A × (b ≡ (row_of k).byte → ⊥)) ks b
 
-left_none : (A : Type 0) (ks : List Kind) (b : ℕ) → Left A ks b → A × (kind_among ks b ≡ none)
+left_none : (A : Type 0) (ks : List Kind) (b : ℕ) → Left A ks b → A × (kind_among ks b ≡ None)
 unfolding kind_among
 left_none A [] b h = (h, refl)
 left_none A (k ∷ ks) b h =
     let (a, e) = left_none (A × (b ≡ (row_of k).byte → ⊥)) ks b h in
     (a.0, rw (ne_eqb b (row_of k).byte a.1, kind_among) e)
 
-pub none_left : (b : ℕ) → Left (Unit {0}) kinds b → kind_of b ≡ none
+pub none_left : (b : ℕ) → Left (Unit {0}) kinds b → kind_of b ≡ None
 unfolding kind_of
 none_left b h = (left_none (Unit {0}) kinds b h).1
 
@@ -178,6 +189,14 @@ row_small k =
       few_before = ltb-true _ _ g.0;
       narrow = leb-true _ _ g.1;
     }
+
+-- No sum of such numbers is large.
+pub row_low : (k : Kind) (count : ℕ) → count < 256 → ((row_of k).before < 256) × ((row_of k).width * count ≤ 510)
+row_low k count h =
+    let s = row_small k in (
+      s.few_before,
+      mul-le-mul {n₁ = (row_of k).width} {m₁ = count} {n₂ = 2} {m₂ = 255} s.narrow (omega arith),
+    )
 
 -- ---- lengths
 
@@ -210,11 +229,11 @@ length_proper n e =
 
 -- ---- which lines are refused, and which are fit
 
-pub unfit_length : (line : List ℕ) → bad_length (length line) ≡ true → shape_of line ≡ unfit 2
+pub unfit_length : (line : List ℕ) → bad_length (length line) ≡ true → shape_of line ≡ Err BadLength
 unfolding shape_of
 unfit_length line e = rw e
 
-pub unfit_character : (line : List ℕ) → Proper (length line) → all_digits line ≡ false → shape_of line ≡ unfit 3
+pub unfit_character : (line : List ℕ) → Proper (length line) → all_digits line ≡ false → shape_of line ≡ Err NoDigit
 unfolding shape_of
 unfit_character line p e = rw (proper_length (length line) p, e)
 
@@ -224,128 +243,130 @@ unfolding shape_of
 shape_kind line p e = rw (proper_length (length line) p, e)
 
 -- A line of no kind, and a line of a kind by its length.
-pub unfit_kind : (line : List ℕ) (o : Option Kind) → o ≡ none → shape_of_kind line o ≡ unfit 4
+pub unfit_kind : (line : List ℕ) (o : Option Kind) → o ≡ None → shape_of_kind line o ≡ Err UnknownKind
 unfolding shape_of_kind
 unfit_kind line o e = rw e
 
-module _ (line : List ℕ) (o : Option Kind) (k : Kind) (e : o ≡ some k) where
-  pub unfit_kind_length : (length line ≡ 2 * bytes_in k line → ⊥) → shape_of_kind line o ≡ unfit 2
+module _ (line : List ℕ) (o : Option Kind) (k : Kind) (e : o ≡ Some k) where
+  pub unfit_kind_length : (length line ≡ 2 * bytes_in k line → ⊥) → shape_of_kind line o ≡ Err BadLength
   unfolding shape_of_kind
   unfit_kind_length h = rw (e, ne_eqb (length line) (2 * bytes_in k line) h)
 
-  pub fit_kind_length : length line ≡ 2 * bytes_in k line → shape_of_kind line o ≡ fit k
+  pub fit_kind_length : length line ≡ 2 * bytes_in k line → shape_of_kind line o ≡ Ok k
   unfolding shape_of_kind
   fit_kind_length h = rw (e, eq-eqb (length line) (2 * bytes_in k line) h)
 
-pub line_fit : (line : List ℕ) (k : Kind) → Fit line k → shape_of line ≡ fit k
+pub line_fit : (line : List ℕ) (k : Kind) → Fit line k → shape_of line ≡ Ok k
 line_fit line k f =
     shape_kind line f.proper f.digits
     ∙ fit_kind_length line (kind_of (field line 0 1)) k f.kind f.long
 
-pub fit_line : (line : List ℕ) (k : Kind) → shape_of line ≡ fit k → Fit line k
+pub fit_line : (line : List ℕ) (k : Kind) → shape_of line ≡ Ok k → Fit line k
 fit_line line k e = go (bad_length (length line)) refl
   where
     first : ℕ
     first = field line 0 1
 
-    not_unfit : (r : ℕ) → shape_of line ≡ unfit r → ⊥
-    not_unfit r u = let z : ◌≡◌ {A = ℕ} 0 1 = cc in omega arith
+    not_unfit : (r : Refusal) → shape_of line ≡ Err r → ⊥
+    not_unfit r u = cc
 
     of_kind : Proper (length line) → all_digits line ≡ true → (o : Option Kind) → kind_of first ≡ o → Fit line k
-    of_kind p d none o = absurd (not_unfit 4 (shape_kind line p d ∙ unfit_kind line (kind_of first) o))
-    of_kind p d (some j) o = by_length (eqb (length line) (2 * bytes_in j line)) refl
+    of_kind p d None o = absurd (not_unfit UnknownKind (shape_kind line p d ∙ unfit_kind line (kind_of first) o))
+    of_kind p d (Some j) o = by_length (eqb (length line) (2 * bytes_in j line)) refl
       where
         by_length : (b : Bool) → eqb (length line) (2 * bytes_in j line) ≡ b → Fit line k
         by_length true h =
             let l : length line ≡ 2 * bytes_in j line = eqb-true _ _ h in
-            let f : fit j ≡ fit k = sym (line_fit line j (record { proper = p; digits = d; kind = o; long = l })) ∙ e in
+            let f : Ok j ≡ Ok k = sym (line_fit line j (record { proper = p; digits = d; kind = o; long = l })) ∙ e in
             let same : j ≡ k = cc in
             rw (← same) (record { proper = p; digits = d; kind = o; long = l })
         by_length false h =
-            absurd (not_unfit 2 (shape_kind line p d ∙ unfit_kind_length line (kind_of first) j o (eqb-false _ _ h)))
+            absurd (not_unfit BadLength (shape_kind line p d ∙ unfit_kind_length line (kind_of first) j o (eqb-false _ _ h)))
 
     with_digits : Proper (length line) → (b : Bool) → all_digits line ≡ b → Fit line k
     with_digits p true h = of_kind p h (kind_of first) refl
-    with_digits p false h = absurd (not_unfit 3 (unfit_character line p h))
+    with_digits p false h = absurd (not_unfit NoDigit (unfit_character line p h))
 
     go : (b : Bool) → bad_length (length line) ≡ b → Fit line k
-    go true h = absurd (not_unfit 2 (unfit_length line h))
+    go true h = absurd (not_unfit BadLength (unfit_length line h))
     go false h = with_digits (length_proper (length line) h) (all_digits line) refl
 
 -- A line gets 3 exactly if its length is proper and some character is no digit.
-pub no_digit : (line : List ℕ) → (shape_of line ≡ unfit 3) ↔ (Proper (length line) × (all_digits line ≡ false))
+pub no_digit : (line : List ℕ) → (shape_of line ≡ Err NoDigit) ↔ (Proper (length line) × (all_digits line ≡ false))
 unfolding shape_of_kind
 no_digit line = (there, λ h. unfit_character line h.0 h.1)
   where
-    by_length : (k : Kind) (b : Bool) → cond b (fit k) (unfit 2) ≡ unfit 3 → ⊥
-    by_length k true e = let z : ◌≡◌ {A = ℕ} 0 1 = cc in omega arith
-    by_length k false e = let z : ◌≡◌ {A = ℕ} 2 3 = cc in omega arith
+    by_length : (k : Kind) (b : Bool) → cond b (Ok k) (Err BadLength) ≡ Err NoDigit → ⊥
+    by_length k true e = cc
+    by_length k false e = cc
 
-    by_kind : (o : Option Kind) → shape_of_kind line o ≡ unfit 3 → ⊥
-    by_kind none e = let z : ◌≡◌ {A = ℕ} 4 3 = cc in omega arith
-    by_kind (some k) e = by_length k (eqb (length line) (2 * bytes_in k line)) e
+    by_kind : (o : Option Kind) → shape_of_kind line o ≡ Err NoDigit → ⊥
+    by_kind None e = cc
+    by_kind (Some k) e = by_length k (eqb (length line) (2 * bytes_in k line)) e
 
-    with_length : shape_of line ≡ unfit 3 → Proper (length line) → (b : Bool) → all_digits line ≡ b → all_digits line ≡ false
+    with_length : shape_of line ≡ Err NoDigit → Proper (length line) → (b : Bool) → all_digits line ≡ b → all_digits line ≡ false
     with_length e p true d = absurd (by_kind (kind_of (field line 0 1)) (sym (shape_kind line p d) ∙ e))
     with_length e p false d = d
 
-    there : shape_of line ≡ unfit 3 → Proper (length line) × (all_digits line ≡ false)
+    there : shape_of line ≡ Err NoDigit → Proper (length line) × (all_digits line ≡ false)
     there e = go (bad_length (length line)) refl
       where
         go : (b : Bool) → bad_length (length line) ≡ b → Proper (length line) × (all_digits line ≡ false)
-        go true h = let u = unfit_length line h in let z : ◌≡◌ {A = ℕ} 2 3 = cc in absurd (omega arith)
+        go true h = let u = unfit_length line h in cc
         go false h = let p = length_proper (length line) h in (p, with_length e p (all_digits line) refl)
 
 -- A line gets 4 exactly if its length is proper, its characters are digits and its first byte is that of no kind.
 pub no_kind : (line : List ℕ)
-    → (shape_of line ≡ unfit 4) ↔ (Proper (length line) × (all_digits line ≡ true) × (kind_of (field line 0 1) ≡ none))
+    → (shape_of line ≡ Err UnknownKind) ↔ (Proper (length line) × (all_digits line ≡ true) × (kind_of (field line 0 1) ≡ None))
 unfolding shape_of_kind
 no_kind line = (there, λ h. shape_kind line h.0 h.1 ∙ unfit_kind line (kind_of (field line 0 1)) h.2)
   where
-    by_length : (k : Kind) (b : Bool) → cond b (fit k) (unfit 2) ≡ unfit 4 → ⊥
-    by_length k true e = let z : ◌≡◌ {A = ℕ} 0 1 = cc in omega arith
-    by_length k false e = let z : ◌≡◌ {A = ℕ} 2 4 = cc in omega arith
+    by_length : (k : Kind) (b : Bool) → cond b (Ok k) (Err BadLength) ≡ Err UnknownKind → ⊥
+    by_length k true e = cc
+    by_length k false e = cc
 
-    by_kind : (o : Option Kind) → shape_of_kind line o ≡ unfit 4 → o ≡ none
-    by_kind none e = refl
-    by_kind (some k) e = absurd (by_length k (eqb (length line) (2 * bytes_in k line)) e)
+    by_kind : (o : Option Kind) → shape_of_kind line o ≡ Err UnknownKind → o ≡ None
+    by_kind None e = refl
+    by_kind (Some k) e = absurd (by_length k (eqb (length line) (2 * bytes_in k line)) e)
 
-    with_length : shape_of line ≡ unfit 4 → Proper (length line) → (b : Bool) → all_digits line ≡ b
-        → Proper (length line) × (all_digits line ≡ true) × (kind_of (field line 0 1) ≡ none)
+    with_length : shape_of line ≡ Err UnknownKind → Proper (length line) → (b : Bool) → all_digits line ≡ b
+        → Proper (length line) × (all_digits line ≡ true) × (kind_of (field line 0 1) ≡ None)
     with_length e p true d = (p, d, by_kind (kind_of (field line 0 1)) (sym (shape_kind line p d) ∙ e))
-    with_length e p false d = let u = unfit_character line p d in let z : ◌≡◌ {A = ℕ} 3 4 = cc in absurd (omega arith)
+    with_length e p false d = let u = unfit_character line p d in cc
 
-    there : shape_of line ≡ unfit 4 → Proper (length line) × (all_digits line ≡ true) × (kind_of (field line 0 1) ≡ none)
+    there : shape_of line ≡ Err UnknownKind → Proper (length line) × (all_digits line ≡ true) × (kind_of (field line 0 1) ≡ None)
     there e = go (bad_length (length line)) refl
       where
         go : (b : Bool) → bad_length (length line) ≡ b
-            → Proper (length line) × (all_digits line ≡ true) × (kind_of (field line 0 1) ≡ none)
-        go true h = let u = unfit_length line h in let z : ◌≡◌ {A = ℕ} 2 4 = cc in absurd (omega arith)
+            → Proper (length line) × (all_digits line ≡ true) × (kind_of (field line 0 1) ≡ None)
+        go true h = let u = unfit_length line h in cc
         go false h = with_length e (length_proper (length line) h) (all_digits line) refl
 
--- ---- the answer for a shape
+-- ---- a shape in numbers
 
-pub refused_shape : (s : Shape) (r : ℕ) → shape_code s ≡ answer.Refused r → s ≡ unfit r
+pub refused_shape : (s : Result Kind Refusal) (r : Refusal) → shape_code s ≡ Err (refusal_number r) → s ≡ Err r
 unfolding shape_code
-refused_shape (unfit q) r e = cc
-refused_shape (fit k) r e = let z : ◌≡◌ {A = ℕ} 0 1 = cc in absurd (omega arith)
+refused_shape (Err q) r e =
+    let same : refusal_number q ≡ refusal_number r = cc in
+    ap Err (same_number q r same)
+refused_shape (Ok k) r e = cc
 
-pub kind_shape : (s : Shape) (b : ℕ) (k : Kind) → shape_code s ≡ answer.Kind b → kind_of b ≡ some k → s ≡ fit k
+pub kind_shape : (s : Result Kind Refusal) (b : ℕ) (k : Kind) → shape_code s ≡ Ok b → kind_of b ≡ Some k → s ≡ Ok k
 unfolding shape_code
-kind_shape (unfit q) b k e h = let z : ◌≡◌ {A = ℕ} 0 1 = cc in absurd (omega arith)
-kind_shape (fit j) b k e h =
+kind_shape (Err q) b k e h = cc
+kind_shape (Ok j) b k e h =
     let p : (row_of j).byte ≡ b = cc in
-    let o : some j ≡ some k = sym (kind_byte j) ∙ ap kind_of p ∙ h in
+    let o : Some j ≡ Some k = sym (kind_byte j) ∙ ap kind_of p ∙ h in
     cc
 
 -- The byte of a fit line is left by no match over all kinds.
-pub none_left_fit : (s : Shape) (b : ℕ) → shape_code s ≡ answer.Kind b → Left (Unit {0}) kinds b → ⊥
+pub none_left_fit : (s : Result Kind Refusal) (b : ℕ) → shape_code s ≡ Ok b → Left (Unit {0}) kinds b → ⊥
 unfolding shape_code
-none_left_fit (unfit q) b e h = let z : ◌≡◌ {A = ℕ} 0 1 = cc in omega arith
-none_left_fit (fit k) b e h =
+none_left_fit (Err q) b e h = cc
+none_left_fit (Ok k) b e h =
     let p : (row_of k).byte ≡ b = cc in
-    let o : some k ≡ none = sym (kind_byte k) ∙ ap kind_of p ∙ none_left b h in
-    let z : ◌≡◌ {A = ℕ} 0 1 = cc in omega arith
+    let o : Some k ≡ None = sym (kind_byte k) ∙ ap kind_of p ∙ none_left b h in
+    cc
 
 -- ---- a line's first 515 characters
 
@@ -361,18 +382,18 @@ shape_515 line = go (ltb 514 (length line)) refl
     go false e = ap shape_of (sym (take_all 515 line (omega (arith, ltb-false 514 (length line) e))))
 
 -- So are they of any reply that goes by the shape and looks into no line that is refused by it.
-pub reply_515 : {X : Type 0} (reply : Shape → List ℕ → X) → ((r : ℕ) (a b : List ℕ) → reply (unfit r) a ≡ reply (unfit r) b)
+pub reply_515 : {X : Type 0} (reply : Result Kind Refusal → List ℕ → X) → ((r : Refusal) (a b : List ℕ) → reply (Err r) a ≡ reply (Err r) b)
     → (line : List ℕ) → reply (shape_of line) line ≡ reply (shape_of (take 515 line)) (take 515 line)
-reply_515 {X} reply same line = ap (λ (s : Shape). reply s line) (shape_515 line) ∙ go (shape_of (take 515 line)) (shape_515 line)
+reply_515 {X} reply same line = ap (λ (s : Result Kind Refusal). reply s line) (shape_515 line) ∙ go (shape_of (take 515 line)) (shape_515 line)
   where
-    go : (s : Shape) → shape_of line ≡ s → reply s line ≡ reply s (take 515 line)
-    go (unfit r) e = same r line (take 515 line)
-    go (fit k) e = ap (reply (fit k)) (sym (take_all 515 line (omega (arith, (fit_line line k e).proper.most))))
+    go : (s : Result Kind Refusal) → shape_of line ≡ s → reply s line ≡ reply s (take 515 line)
+    go (Err r) e = same r line (take 515 line)
+    go (Ok k) e = ap (reply (Ok k)) (sym (take_all 515 line (omega (arith, (fit_line line k e).proper.most))))
 
 -- ---- reading the items of a line
 
 module _ (width : ℕ) (line : List ℕ) (places : ℕ) where
-  pub items_little : places < 255 → read_items width line places ≡ unread 1
+  pub items_little : places < 255 → read_items width line places ≡ Err LittleLent
   unfolding read_items
   items_little h = rw (lt-ltb places 255)
 
@@ -383,26 +404,26 @@ module _ (width : ℕ) (line : List ℕ) (places : ℕ) where
 
 -- A line of no kind, of a kind with items of another width, and of a kind with such items.
 module _ (width : ℕ) (line : List ℕ) (o : Option Kind) where
-  pub items_none : o ≡ none → items_of_kind width line o ≡ unread 4
+  pub items_none : o ≡ None → items_of_kind width line o ≡ Err UnknownKind
   unfolding items_of_kind
   items_none e = rw e
 
-  module _ (k : Kind) (e : o ≡ some k) where
-    pub items_other : ((row_of k).width ≡ width → ⊥) → items_of_kind width line o ≡ unread 4
+  module _ (k : Kind) (e : o ≡ Some k) where
+    pub items_other : ((row_of k).width ≡ width → ⊥) → items_of_kind width line o ≡ Err UnknownKind
     unfolding items_of_kind
     items_other h = rw (e, ne_eqb (row_of k).width width h)
 
-    pub items_short : (row_of k).width ≡ width → length line < 2 * bytes_in k line → items_of_kind width line o ≡ unread 2
+    pub items_short : (row_of k).width ≡ width → length line < 2 * bytes_in k line → items_of_kind width line o ≡ Err BadLength
     unfolding items_of_kind
     items_short w h = rw (e, eq-eqb (row_of k).width width w, lt-ltb (length line) (2 * bytes_in k line))
 
-    pub items_there : (row_of k).width ≡ width → 2 * bytes_in k line ≤ length line → items_of_kind width line o ≡ read (items_in k line)
+    pub items_there : (row_of k).width ≡ width → 2 * bytes_in k line ≤ length line → items_of_kind width line o ≡ Ok (items_in k line)
     unfolding items_of_kind
     items_there w h = rw (e, eq-eqb (row_of k).width width w, le-ltb (length line) (2 * bytes_in k line))
 
 -- The items of a fit line are all read.
 pub items_fit : (line : List ℕ) (places : ℕ) (k : Kind) → Fit line k → 255 ≤ places
-    → read_items (row_of k).width line places ≡ read (items_in k line)
+    → read_items (row_of k).width line places ≡ Ok (items_in k line)
 items_fit line places k f h =
     items_kind (row_of k).width line places h
     ∙ items_there (row_of k).width line (kind_of (field line 0 1)) k f.kind refl (omega (arith, f.long))

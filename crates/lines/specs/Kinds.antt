@@ -1,13 +1,10 @@
 -- The kinds of lines and how a line of each is laid out: document 01, 'Frames', and document 02, T-02, T-04, T-05 and T-06. Nothing
 -- else says which kinds there are.
 -- Definitions only.
-use Rattle.std.specs.Prelude.{true, false, List, [], ◌∷◌, ℕ, eqb}
-use Rattle.std.proofs.Math.Option.{Option, none, some}
-
--- A count, the best chain, the chain at a position, a burned record, a word, the chain next to a word's, a chain to run, a tree
--- word, a record whose tree word is asked for.
-pub data Kind : Type 0 where
-  count_line best_line at_line record_line word_line next_line run_line tree_line to_tree_line : Kind
+use Rattle.std.specs.Prelude.{true, false, List, [], ◌∷◌, ℕ, eqb, Option, Some, None}
+-- The kinds are those of the code, here under the names that a line of each has.
+pub use Rattle.lines.specs.declared.Kind.{Kind}
+pub use Rattle.lines.specs.declared.Kind.TheVariants.{Count as count_line, Best as best_line, At as at_line, Record as record_line, Word as word_line, Next as next_line, Run as run_line, Tree as tree_line, ToTree as to_tree_line}
 
 -- How a line of a kind is laid out. Items are a record's part numbers or a word's letters. In a kind without items all bytes stand
 -- before them, and their width is 0. In a record a and b of its largest part stand between the number of items and the items.
@@ -41,8 +38,8 @@ kinds =
 
 -- The first of some kinds that has a byte.
 unfoldable pub kind_among : List Kind → ℕ → Option Kind
-kind_among [] b = none
-kind_among (k ∷ ks) b = elim (eqb b (row_of k).byte) [ true ↦ some k | false ↦ kind_among ks b ]
+kind_among [] b = None
+kind_among (k ∷ ks) b = elim (eqb b (row_of k).byte) [ true ↦ Some k | false ↦ kind_among ks b ]
 
 -- The kind of a line by its first byte.
 unfoldable pub kind_of : ℕ → Option Kind

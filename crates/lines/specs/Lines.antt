@@ -1,14 +1,12 @@
 -- A line before it is served: its fields and items, which lines are refused by their shape, and what reading the items of a line
 -- gives. Document 01, 'Frames' and 'What a refused line or call gets'. A line is a list of characters, without its byte 10.
 -- Definitions only.
-use Rattle.std.specs.Prelude.{◌≡◌, Bool, true, cond, ◌||◌, List, [], ◌∷◌, ◌++◌, ℕ, zero, suc, ◌+◌, ◌*◌, ◌%◌, ◌≤◌, ◌<◌, eqb, ltb, length, take, drop}
-use Rattle.std.proofs.Math.Option.{Option, none, some}
+use Rattle.std.specs.Prelude.{◌≡◌, Bool, true, cond, Option, Some, None, Result, Ok, Err, ◌||◌, List, [], ◌∷◌, ◌++◌, ℕ, zero, suc, ◌+◌, ◌*◌, ◌%◌, ◌≤◌, ◌<◌, eqb, ltb, length, take, drop}
 use Rattle.digits.specs.Digits.{all_digits, number_of}
+use Rattle.refusals.specs.Refusals.{number_of as refusal_number}
+use Rattle.refusals.specs.declared.Refusal.{Refusal}
+use Rattle.refusals.specs.declared.Refusal.TheVariants.{LittleLent, BadLength, NoDigit, UnknownKind}
 use Rattle.lines.specs.Kinds.{Kind, row_of, kind_of}
-use Rattle.lines.specs.declared.Shape.{Shape as ShapeAnswer}
-use Rattle.lines.specs.declared.Shape.TheVariants as answer
-use Rattle.lines.specs.declared.Items.{Items as ItemsAnswer}
-use Rattle.lines.specs.declared.Items.TheVariants as told
 
 -- ---- fields of a line: two digits a byte
 
@@ -37,30 +35,26 @@ items_in k line = fields line (row_of k).before (row_of k).width (count_in k lin
 
 -- ---- which lines are refused before they are served
 
--- A line is refused by a number, or is of a kind.
-pub data Shape : Type 0 where
-  unfit : ℕ → Shape
-  fit : Kind → Shape
-
 -- No characters, an odd number or above 514.
 unfoldable pub bad_length : ℕ → Bool
 bad_length n = eqb n 0 || (eqb (n % 2) 1 || ltb 514 n)
 
 -- A line of a kind, by its length.
-unfoldable pub shape_of_kind : List ℕ → Option Kind → Shape
-shape_of_kind line none = unfit 4
-shape_of_kind line (some k) = cond (eqb (length line) (2 * bytes_in k line)) (fit k) (unfit 2)
+unfoldable pub shape_of_kind : List ℕ → Option Kind → Result Kind Refusal
+shape_of_kind line None = Err UnknownKind
+shape_of_kind line (Some k) = cond (eqb (length line) (2 * bytes_in k line)) (Ok k) (Err BadLength)
 
--- In document 01's order: the line's length in general, 3, 4, the length of its kind.
-unfoldable pub shape_of : List ℕ → Shape
+-- The shape of a line: its kind, or its refusal. In document 01's order: the line's length in general, its characters, its kind, the
+-- length of its kind.
+unfoldable pub shape_of : List ℕ → Result Kind Refusal
 shape_of line =
-    cond (bad_length (length line)) (unfit 2)
-    (cond (all_digits line) (shape_of_kind line (kind_of (field line 0 1))) (unfit 3))
+    cond (bad_length (length line)) (Err BadLength)
+    (cond (all_digits line) (shape_of_kind line (kind_of (field line 0 1))) (Err NoDigit))
 
--- The answer for a shape: the byte of its kind, or its refusal.
-unfoldable pub shape_code : Shape → ShapeAnswer
-shape_code (unfit r) = answer.Refused r
-shape_code (fit k) = answer.Kind (row_of k).byte
+-- The same in numbers: the byte of the kind, or the number of the refusal.
+unfoldable pub shape_code : Result Kind Refusal → Result ℕ ℕ
+shape_code (Err r) = Err (refusal_number r)
+shape_code (Ok k) = Ok (row_of k).byte
 
 -- A length that is not refused in general: some characters, an even number, at most 514.
 pub record Proper (n : ℕ) : Type 0 where
@@ -72,34 +66,30 @@ pub record Proper (n : ℕ) : Type 0 where
 pub record Fit (line : List ℕ) (k : Kind) : Type 0 where
   pub proper : Proper (length line)
   pub digits : all_digits line ≡ true
-  pub kind : kind_of (field line 0 1) ≡ some k
+  pub kind : kind_of (field line 0 1) ≡ Some k
   pub long : length line ≡ 2 * bytes_in k line
 
 -- ---- reading the items of a line
 
--- The items of a line are not read, by the number of the refusal, or they are.
-pub data Items : Type 0 where
-  unread : ℕ → Items
-  read : List ℕ → Items
-
--- Items of `width` bytes in a line of a kind: 4 where the kind has no such items, 2 where the line is shorter than its kind.
-unfoldable pub items_of_kind : ℕ → List ℕ → Option Kind → Items
-items_of_kind width line none = unread 4
-items_of_kind width line (some k) =
+-- Items of `width` bytes in a line of a kind: there is no such kind where the kind has no such items, and the length is bad where the
+-- line is shorter than its kind.
+unfoldable pub items_of_kind : ℕ → List ℕ → Option Kind → Result (List ℕ) Refusal
+items_of_kind width line None = Err UnknownKind
+items_of_kind width line (Some k) =
     cond (eqb (row_of k).width width)
-    (cond (ltb (length line) (2 * bytes_in k line)) (unread 2) (read (items_in k line)))
-    (unread 4)
+    (cond (ltb (length line) (2 * bytes_in k line)) (Err BadLength) (Ok (items_in k line)))
+    (Err UnknownKind)
 
--- They are read into 255 places or more, as many as a count can ask for; fewer get 1 first.
-unfoldable pub read_items : ℕ → List ℕ → ℕ → Items
-read_items width line places = cond (ltb places 255) (unread 1) (items_of_kind width line (kind_of (field line 0 1)))
+-- They are read into 255 places or more, as many as a count can ask for; fewer are refused first.
+unfoldable pub read_items : ℕ → List ℕ → ℕ → Result (List ℕ) Refusal
+read_items width line places = cond (ltb places 255) (Err LittleLent) (items_of_kind width line (kind_of (field line 0 1)))
 
--- The answer: how many there are, or the refusal.
-unfoldable pub items_code : Items → ItemsAnswer
-items_code (unread r) = told.Refused r
-items_code (read xs) = told.Read (length xs)
+-- How many there are, or the refusal.
+unfoldable pub items_count : Result (List ℕ) Refusal → Result ℕ Refusal
+items_count (Err r) = Err r
+items_count (Ok xs) = Ok (length xs)
 
 -- The places at exit: the items, and later places as they were; all as they were where the items are not read.
-unfoldable pub items_left : Items → List ℕ → List ℕ
-items_left (unread r) entry = entry
-items_left (read xs) entry = xs ++ drop (length xs) entry
+unfoldable pub items_left : Result (List ℕ) Refusal → List ℕ → List ℕ
+items_left (Err r) entry = entry
+items_left (Ok xs) entry = xs ++ drop (length xs) entry

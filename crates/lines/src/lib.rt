@@ -3,40 +3,117 @@
 // any input.
 #![tactic(auto)]
 
-ghost use Rattle.std.specs.Prelude.{◌≡◌, ◌++◌, ◌+◌, ◌*◌, ◌%◌, ◌^◌, ◌≤◌, ◌<◌, length, drop};
-ghost use Rattle.digits.specs.Digits.{value_or0};
-ghost use Rattle.lines.specs.Kinds.{kind_of};
-ghost use Rattle.lines.specs.Lines.{field, fields, shape_of, shape_code, read_items, items_code, items_left};
-ghost use Rattle.lines.specs.Calls.{row_with, row_for, span_items, InLine};
+ghost use Rattle.std.specs.Prelude.{◌≡◌, ◌++◌, ◌+◌, ◌*◌, ◌%◌, ◌^◌, ◌≤◌, ◌<◌, ℕ, length, drop, map, ok_or};
+ghost use Rattle.refusals.specs.declared.Refusal.TheVariants.{UnknownKind};
+ghost use Rattle.std.proofs.Common.{lit≤};
+ghost use Rattle.lines.specs.Kinds.{kind_of, row_of};
+ghost use Rattle.lines.specs.Lines.{field, fields, bytes_in, count_in, shape_of, read_items, items_count, items_left};
 
-// What a line is by its shape: of a kind, given by its byte, or refused, by the number of the refusal.
-#[derive(Drop)]
-pub enum Shape {
-    Kind(u8),
-    Refused(u8),
+use refusals::Refusal;
+
+// What a line is or asks for, by its first byte.
+#[derive(Clone, Copy, PartialEq, Eq)]
+pub enum Kind {
+    // A count.
+    Count,
+    // The best chain.
+    Best,
+    // The chain at a position.
+    At,
+    // A burned record.
+    Record,
+    // A word.
+    Word,
+    // The chain next to a word's.
+    Next,
+    // A chain to run.
+    Run,
+    // A tree word.
+    Tree,
+    // A record whose tree word is asked for.
+    ToTree,
 }
 
-// What reading the items of a line answers: how many there are, or the number of the refusal.
-#[derive(Drop)]
-pub enum Items {
-    Read(usize),
-    Refused(u8),
+// Nothing else in the code says which bytes are those of kinds.
+impl TryFrom<u8> for Kind {
+    type Error = Refusal;
+
+    ghost try_from_gives = { λ byte kind. kind ≡ ok_or (kind_of byte) UnknownKind };
+
+    #[tactic(auto, unfolding(crate::specs::Kinds::kind_of, crate::specs::Kinds::kind_among, crate::specs::Kinds::kinds, crate::specs::Kinds::row_of))]
+    fn try_from(byte: u8) -> Result<Kind, Refusal> {
+        match byte {
+            1 => Ok(Kind::Count),
+            2 => Ok(Kind::Best),
+            3 => Ok(Kind::At),
+            4 => Ok(Kind::Record),
+            5 => Ok(Kind::Word),
+            6 => Ok(Kind::Next),
+            7 => Ok(Kind::Run),
+            8 => Ok(Kind::Tree),
+            9 => Ok(Kind::ToTree),
+            _ => Err(Refusal::UnknownKind),
+        }
+    }
 }
 
 // How a line of a kind is laid out: how many bytes stand before its items, which byte holds their number, and how many bytes an
-// item has. A kind without items has width 0, and all its bytes stand before them. All three are 0 where there is no such kind.
-#[derive(Drop)]
+// item has. A kind without items has width 0, and all its bytes stand before them.
+#[derive(Clone, Copy)]
 struct Row {
     before: usize,
-    at: usize,
+    count_at: usize,
     width: usize,
 }
 
-// Where the items of a line stand: the byte of the first and how many there are; or the number of the refusal.
-#[derive(Drop)]
-enum Span {
-    At { from: usize, count: usize },
-    Refused(u8),
+impl Row {
+    fn new(before: usize, count_at: usize, width: usize) -> Row
+        ensures { (result.before ≡ before) × (result.count_at ≡ count_at) × (result.width ≡ width) }
+    {
+        Row {
+            before,
+            count_at,
+            width,
+        }
+    }
+}
+
+impl Kind {
+    #[tactic(auto, unfolding(crate::specs::Kinds::row_of))]
+    fn row(self) -> Row
+        ensures before { result.before ≡ (row_of self).before }
+        ensures count_at { result.count_at ≡ (row_of self).count_at }
+        ensures width { result.width ≡ (row_of self).width }
+    {
+        match self {
+            Kind::Count => Row::new(9, 0, 0),
+            Kind::Best => Row::new(20, 0, 0),
+            Kind::At => Row::new(17, 0, 0),
+            Kind::Record => Row::new(4, 1, 2),
+            Kind::Word => Row::new(2, 1, 1),
+            Kind::Next => Row::new(2, 1, 1),
+            Kind::Run => Row::new(20, 17, 2),
+            Kind::Tree => Row::new(2, 1, 1),
+            Kind::ToTree => Row::new(4, 1, 2),
+        }
+    }
+
+    // How many items a line of the kind says it has.
+    #[tactic(auto, unfolding(crate::specs::Lines::count_in))]
+    fn count_in(self, line: &[u8]) -> usize
+        ensures { (result ≡ count_in self line.now) × (result < 256) }
+    {
+        usize::from(item_at::<u8>(line, self.row().count_at))
+    }
+
+    // How many bytes it must have.
+    #[tactic(auto, using(crate::proofs::LineLaws::row_low), unfolding(crate::specs::Lines::bytes_in))]
+    fn bytes_in(self, line: &[u8]) -> usize
+        ensures { result ≡ bytes_in self line.now }
+    {
+        let row = self.row();
+        row.before + row.width * self.count_in(line)
+    }
 }
 
 // The value of k bytes from byte `at` on, highest first, modulo 2^64: the value itself where k is at most 8. Bytes past the end of
@@ -56,176 +133,142 @@ pub fn field_of(line: &[u8], at: usize, k: usize) -> u64
     digits::read_number(&line[from..to])
 }
 
-// One byte.
-fn byte_of(line: &[u8], at: usize) -> u8
-    ensures { result ≡ field line.now at 1 }
+// An item of a line: a letter, which has one byte, or a part number, which has two.
+trait Item: Copy {
+    // The item as a number, and how many bytes it has.
+    ghost value: { Self → ℕ };
+
+    ghost WIDTH: { ℕ };
+
+    const WIDTH: usize;
+
+    // The item of a number that has so many bytes.
+    fn of(number: u64) -> Self
+        requires { number < 16 ^ (2 * WIDTH) }
+        ensures { value result ≡ number };
+
+    ghost narrow: { WIDTH ≤ 8 };
+}
+
+impl Item for u8 {
+    ghost value = { λ letter. letter };
+
+    ghost WIDTH = { 1 };
+
+    const WIDTH: usize = 1;
+
+    fn of(number: u64) -> u8 {
+        number as u8
+    }
+
+    ghost narrow = { lit≤ tt };
+}
+
+// `of` stands in both: a cast names its type.
+impl Item for u16 {
+    ghost value = { λ number. number };
+
+    ghost WIDTH = { 2 };
+
+    const WIDTH: usize = 2;
+
+    fn of(number: u64) -> u16 {
+        number as u16
+    }
+
+    ghost narrow = { lit≤ tt };
+}
+
+// One item from byte `at` on.
+fn item_at<T: Item>(line: &[u8], at: usize) -> T
+    ensures { T.value result ≡ field line.now at T.WIDTH }
 {
-    field_of(line, at, 1) as u8
+    T::of(field_of(line, at, T::WIDTH))
 }
 
 // Two bytes.
 pub fn pair_of(line: &[u8], at: usize) -> u16
     ensures { result ≡ field line.now at 2 }
 {
-    field_of(line, at, 2) as u16
+    item_at(line, at)
 }
 
-fn wide(x: u8) -> usize
-    ensures { (result ≡ x) × (result < 256) }
+// The kind of a line by its first byte.
+fn kind_of(line: &[u8]) -> Result<Kind, Refusal>
+    ensures { result ≡ ok_or (kind_of (field line.now 0 1)) UnknownKind }
 {
-    x as usize
+    Kind::try_from(item_at::<u8>(line, 0))
 }
 
-fn row_with(before: usize, at: usize, width: usize) -> Row
-    ensures { result ≡ row_with before at width }
-{
-    Row { before, at, width }
-}
-
-// The row of a kind by its byte: `before`, `at`, `width`. Nothing else in the code says which kinds there are.
-fn row_of(kind: u8) -> Row
-    ensures { result ≡ row_for (kind_of kind) }
-{
-    match kind {
-        1 => row_with(9, 0, 0),
-        2 => row_with(20, 0, 0),
-        3 => row_with(17, 0, 0),
-        4 => row_with(4, 1, 2),
-        5 => row_with(2, 1, 1),
-        6 => row_with(2, 1, 1),
-        7 => row_with(20, 17, 2),
-        8 => row_with(2, 1, 1),
-        9 => row_with(4, 1, 2),
-        _ => row_with(0, 0, 0),
-    }
-}
-
-// The shape of a line: its length in general (2), its characters (3), its kind (4), the length of its kind (2), in this order.
-pub fn shape_of(line: &[u8]) -> Shape
-    ensures { result ≡ shape_code (shape_of line.now) }
+// The shape of a line: its length in general, its characters, its kind, the length of its kind, in this order.
+pub fn shape_of(line: &[u8]) -> Result<Kind, Refusal>
+    ensures { result ≡ shape_of line.now }
 {
     let n = line.len();
-    if n == 0 {
-        return Shape::Refused(2);
-    }
-    if n % 2 == 1 {
-        return Shape::Refused(2);
-    }
-    if n > 514 {
-        return Shape::Refused(2);
+    if n == 0 || n % 2 == 1 || n > 514 {
+        return Err(Refusal::BadLength);
     }
     if !digits::all_digits(line) {
-        return Shape::Refused(3);
+        return Err(Refusal::NoDigit);
     }
-    let kind = byte_of(line, 0);
-    let row = row_of(kind);
-    if row.before == 0 {
-        return Shape::Refused(4);
+    let kind = kind_of(line)?;
+    if n / 2 != kind.bytes_in(line) {
+        return Err(Refusal::BadLength);
     }
-    let count = wide(byte_of(line, row.at));
-    if n / 2 != row.before + row.width * count {
-        return Shape::Refused(2);
-    }
-    Shape::Kind(kind)
+    Ok(kind)
 }
 
-// The value of a character, as small as sums of digits need it.
-fn digit(c: u8) -> u64
-    ensures { (result ≡ value_or0 c) × (result < 16) }
+// Values of so many bytes each, `count` of them from byte `from` on, at the start of `places`.
+fn read_fields<T: Item>(line: &[u8], from: usize, count: usize, places: &mut [T])
+    requires { (2 * (from + T.WIDTH * count) ≤ length line.now) × (count ≤ length places.old) }
+    ensures { map T.value places.new ≡ fields line.now from T.WIDTH count ++ drop count (map T.value places.old) }
 {
-    digits::digit_value(c)
+    for i in 0..count {
+        let start = 2 * (from + T::WIDTH * i);
+        let end = start + 2 * T::WIDTH;
+        places[i] = T::of(digits::read_number(&line[start..end]));
+    }
 }
 
-// The byte that two characters stand for, and the two bytes that four stand for.
-fn byte_from(high: u8, low: u8) -> u8
-    ensures { result ≡ 16 * value_or0 high + value_or0 low }
+// The items of a line, at the start of `places`; how many there are is told. Refuses where fewer than 255 places are lent, where
+// the line is of no kind that has such items, and where it is shorter than its kind; then nothing is written.
+fn items_of<T: Item>(line: &[u8], places: &mut [T]) -> Result<usize, Refusal>
+    ensures value { result ≡ items_count (read_items T.WIDTH line.now (length places.old)) }
+    ensures places_after { map T.value places.new
+        ≡ items_left (read_items T.WIDTH line.now (length places.old)) (map T.value places.old) }
 {
-    (16 * digit(high) + digit(low)) as u8
+    if places.len() < 255 {
+        return Err(Refusal::LittleLent);
+    }
+    let kind = kind_of(line)?;
+    let row = kind.row();
+    if row.width != T::WIDTH {
+        return Err(Refusal::UnknownKind);
+    }
+    if line.len() / 2 < kind.bytes_in(line) {
+        return Err(Refusal::BadLength);
+    }
+    let count = kind.count_in(line);
+    read_fields(line, row.before, count, places);
+    Ok(count)
 }
 
-fn pair_from(a: u8, b: u8, c: u8, d: u8) -> u16
-    ensures { result ≡ 4096 * value_or0 a + 256 * value_or0 b + 16 * value_or0 c + value_or0 d }
-{
-    (4096 * digit(a) + 256 * digit(b) + 16 * digit(c) + digit(d)) as u16
-}
-
-// Where the items of `width` bytes stand in a line, and how many there are; or why they cannot be read into that many places.
-fn span_of(line: &[u8], width: usize, places: usize) -> Span
-    requires { 0 < width }
-    ensures result_value { span_items width line.now result ≡ read_items width line.now places }
-    ensures in_line { InLine width line.now places result }
-{
-    if places < 255 {
-        return Span::Refused(1);
-    }
-    let row = row_of(byte_of(line, 0));
-    if row.width != width {
-        return Span::Refused(4);
-    }
-    let count = wide(byte_of(line, row.at));
-    if line.len() / 2 < row.before + width * count {
-        return Span::Refused(2);
-    }
-    Span::At {
-        from: row.before,
-        count,
-    }
-}
-
-// Values of one byte each, `count` of them from byte `from` on, at the start of `letters`.
-fn read_bytes(line: &[u8], from: usize, count: usize, letters: &mut [u8])
-    requires { (2 * (from + count) ≤ length line.now) × (count ≤ length letters.old) }
-    ensures { letters.new ≡ fields line.now from 1 count ++ drop count letters.old }
-{
-    let mut i = 0;
-    while i < count {
-        let j = 2 * (from + i);
-        letters[i] = byte_from(line[j], line[j + 1]);
-        i += 1;
-    }
-}
-
-// The same with values of two bytes.
-fn read_pairs(line: &[u8], from: usize, count: usize, numbers: &mut [u16])
-    requires { (2 * (from + 2 * count) ≤ length line.now) × (count ≤ length numbers.old) }
-    ensures { numbers.new ≡ fields line.now from 2 count ++ drop count numbers.old }
-{
-    let mut i = 0;
-    while i < count {
-        let j = 2 * (from + 2 * i);
-        numbers[i] = pair_from(line[j], line[j + 1], line[j + 2], line[j + 3]);
-        i += 1;
-    }
-}
-
-// The letters of the word in a line, one byte each, at the start of `letters`; how many there are is told. Refuses with 1 where
-// fewer than 255 places are lent, with 4 where the line is of no kind that has letters, and with 2 where it is shorter than its
-// kind; then nothing is written.
-pub fn letters_of(line: &[u8], letters: &mut [u8]) -> Items
-    ensures value { result ≡ items_code (read_items 1 line.now (length letters.old)) }
+// The letters of the word in a line, one byte each, at the start of `letters`; how many there are is told. Refuses where fewer than
+// 255 places are lent, where the line is of no kind that has letters, and where it is shorter than its kind; then nothing is
+// written.
+pub fn letters_of(line: &[u8], letters: &mut [u8]) -> Result<usize, Refusal>
+    ensures value { result ≡ items_count (read_items 1 line.now (length letters.old)) }
     ensures letters_after { letters.new
         ≡ items_left (read_items 1 line.now (length letters.old)) letters.old }
 {
-    match span_of(line, 1, letters.len()) {
-        Span::At { from, count } => {
-            read_bytes(line, from, count, letters);
-            Items::Read(count)
-        }
-        Span::Refused(number) => Items::Refused(number),
-    }
+    items_of(line, letters)
 }
 
 // The part numbers of the record in a line, two bytes each, in the same way.
-pub fn numbers_of(line: &[u8], numbers: &mut [u16]) -> Items
-    ensures value { result ≡ items_code (read_items 2 line.now (length numbers.old)) }
+pub fn numbers_of(line: &[u8], numbers: &mut [u16]) -> Result<usize, Refusal>
+    ensures value { result ≡ items_count (read_items 2 line.now (length numbers.old)) }
     ensures numbers_after { numbers.new
         ≡ items_left (read_items 2 line.now (length numbers.old)) numbers.old }
 {
-    match span_of(line, 2, numbers.len()) {
-        Span::At { from, count } => {
-            read_pairs(line, from, count, numbers);
-            Items::Read(count)
-        }
-        Span::Refused(number) => Items::Refused(number),
-    }
+    items_of(line, numbers)
 }

@@ -2,63 +2,58 @@
 -- A refusal leaves those as they were. Document 01, 'What a refused line or call gets', and document 02 have the refusals' numbers;
 -- of all but the reply 0 says that the call was served.
 --
--- In this order: the reply to a line, the counts, a chain that is found, the best chain and the cheapest, placing, tree words, the run
--- of a chain, the bench.
+-- In this order: the reply to a line, answers, a chain that is found, the best chain and the cheapest, placing, tree words, the bench.
 -- Definitions only.
-use Rattle.std.specs.Prelude.{Bool, true, false, List, ℕ, length}
+use Rattle.std.specs.Prelude.{Bool, true, false, List, ℕ, length, Result, Ok, Err}
 use Rattle.chains.specs.Words.{Word}
 use Rattle.chains.specs.Listing.{position}
 use Rattle.chains.specs.Best.{Prices, Limits, price}
 use Rattle.ranking.specs.Services.{Outcome, refused, gives, lent, lent_of, lent_scratch, of_record}
-use Rattle.counting.specs.declared.Counted.{Counted}
-use Rattle.counting.specs.declared.Counted.TheVariants.{Count, Refused}
+use Rattle.refusals.specs.declared.Refusal.{Refusal}
+use Rattle.refusals.specs.Refusals.{number_of}
 use Rattle.trees.specs.Answers.{of_tree, TreeWord, no_tree, tree_word, record_tree, lent_tree}
-use Rattle.running.specs.declared.Ran.{Ran}
-use Rattle.running.specs.declared.Ran.TheVariants as ran
 use Rattle.best.specs.Chosen.{best_outcome}
 use Rattle.limited.specs.Services.{table_size, cheapest_outcome}
-use Rattle.bench.specs.Benches as bench
 use Rattle.bench.specs.declared.Walked.{Walked}
-use Rattle.bench.specs.declared.Walked.TheVariants as walked
 use Rattle.bench.specs.declared.Told.{Told}
-use Rattle.bench.specs.declared.Told.TheVariants as told
 use Rattle.frames.specs.Replies.{reply_of}
 
 -- ---- the reply to a line
 
 -- How many digits the reply to a line has, or refusal 1 where too little is lent. A reply has at least two digits (AnswerLaws), so
 -- 1 is no length.
-unfoldable pub digits_or_refusal : Bool → List ℕ → ℕ
+abbrev pub digits_or_refusal : Bool → List ℕ → ℕ
 digits_or_refusal true line = 1
 digits_or_refusal false line = length (reply_of line)
 
--- ---- the counts
+-- ---- answers
 
-unfoldable pub count_status : Counted → ℕ
-count_status (Count m) = 0
-count_status (Refused r) = r
+-- 0 where a service did what it was asked, else the number of the refusal.
+abbrev pub status : {T : Type 0} → Result T Refusal → ℕ
+status (Ok t) = 0
+status (Err r) = number_of r
 
--- The count, or x where it is refused.
-unfoldable pub count_or : Counted → ℕ → ℕ
-count_or (Count m) x = m
-count_or (Refused r) x = x
+-- The number that is told, or x where it is refused.
+abbrev pub value_or : Result ℕ Refusal → ℕ → ℕ
+value_or (Ok m) x = m
+value_or (Err r) x = x
 
 -- ---- a chain that is found
 
-unfoldable pub outcome_status : Outcome → ℕ
-outcome_status (refused r) = r
+abbrev pub outcome_status : Outcome → ℕ
+outcome_status (refused r) = number_of r
 outcome_status (gives n c) = 0
 
 -- The number n that the chain sums to, its position in the list of n and its number of parts, or x where it is refused.
-unfoldable pub number_or : Outcome → ℕ → ℕ
+abbrev pub number_or : Outcome → ℕ → ℕ
 number_or (refused r) x = x
 number_or (gives n c) x = n
 
-unfoldable pub position_or : Outcome → ℕ → ℕ
+abbrev pub position_or : Outcome → ℕ → ℕ
 position_or (refused r) x = x
 position_or (gives n c) x = position n c
 
-unfoldable pub parts_or : Outcome → ℕ → ℕ
+abbrev pub parts_or : Outcome → ℕ → ℕ
 parts_or (refused r) x = x
 parts_or (gives n c) x = length c
 
@@ -80,7 +75,7 @@ abbrev pub cheapest_asked : List ℕ → List ℕ → ℕ → Limits → Prices 
 cheapest_asked scratch places n lim π = lent_of table_size scratch places (cheapest_outcome n lim (price π))
 
 -- The price of such a chain, or x where it is refused.
-unfoldable pub price_or : Prices → Outcome → ℕ → ℕ
+abbrev pub price_or : Prices → Outcome → ℕ → ℕ
 price_or π (refused r) x = x
 price_or π (gives n c) x = price π c
 
@@ -100,55 +95,31 @@ tree_chain_asked scratch places letters = lent scratch places (of_tree letters)
 abbrev pub tree_asked : List ℕ → List ℕ → TreeWord
 tree_asked places numbers = lent_tree places (record_tree numbers)
 
-unfoldable pub tree_status : TreeWord → ℕ
-tree_status (no_tree r) = r
+abbrev pub tree_status : TreeWord → ℕ
+tree_status (no_tree r) = number_of r
 tree_status (tree_word w) = 0
 
 -- How many letters the tree word has, or x where it is refused.
-unfoldable pub letters_or : TreeWord → ℕ → ℕ
+abbrev pub letters_or : TreeWord → ℕ → ℕ
 letters_or (no_tree r) x = x
 letters_or (tree_word w) x = length w
 
--- ---- the run of a chain
-
-unfoldable pub run_status : Ran → ℕ
-run_status (ran.Residue m) = 0
-run_status (ran.Refused r) = r
-
--- The residue, or x where it is refused.
-unfoldable pub residue_or : Ran → ℕ → ℕ
-residue_or (ran.Residue m) x = m
-residue_or (ran.Refused r) x = x
-
 -- ---- the bench
 
--- Opening, moving, saving and coming back: 0 where a bench is left.
-unfoldable pub bench_status : bench.Outcome → ℕ
-bench_status (bench.refused r) = r
-bench_status (bench.leaves b) = 0
-
-unfoldable pub walk_status : Walked → ℕ
-walk_status (walked.Walk m k) = 0
-walk_status (walked.Refused r) = r
-
 -- The number of moves, and of parts of the chain that the walk ends with, or x where it is refused.
-unfoldable pub moves_or : Walked → ℕ → ℕ
-moves_or (walked.Walk m k) x = m
-moves_or (walked.Refused r) x = x
+abbrev pub moves_or : Result Walked Refusal → ℕ → ℕ
+moves_or (Ok w) x = w.moves
+moves_or (Err r) x = x
 
-unfoldable pub walked_parts_or : Walked → ℕ → ℕ
-walked_parts_or (walked.Walk m k) x = k
-walked_parts_or (walked.Refused r) x = x
-
-unfoldable pub tell_status : Told → ℕ
-tell_status (told.Chain n k) = 0
-tell_status (told.Refused r) = r
+abbrev pub walked_parts_or : Result Walked Refusal → ℕ → ℕ
+walked_parts_or (Ok w) x = w.k
+walked_parts_or (Err r) x = x
 
 -- The bench's number, and the number of parts of its present chain, or x where it is refused.
-unfoldable pub told_number_or : Told → ℕ → ℕ
-told_number_or (told.Chain n k) x = n
-told_number_or (told.Refused r) x = x
+abbrev pub told_number_or : Result Told Refusal → ℕ → ℕ
+told_number_or (Ok t) x = t.n
+told_number_or (Err r) x = x
 
-unfoldable pub told_parts_or : Told → ℕ → ℕ
-told_parts_or (told.Chain n k) x = k
-told_parts_or (told.Refused r) x = x
+abbrev pub told_parts_or : Result Told Refusal → ℕ → ℕ
+told_parts_or (Ok t) x = t.k
+told_parts_or (Err r) x = x

@@ -14,21 +14,39 @@ ghost use Rattle.trees.specs.Answers.{tree_left};
 ghost use Rattle.running.specs.Ran.{ran_of};
 ghost use Rattle.bench.specs.Benches.{open_outcome, move_outcome, save_outcome, back_outcome, bench_left};
 ghost use Rattle.bench.specs.Benches.{walked_of, walk_left, told_of, places_left as toldLeft};
-ghost use Rattle.meltsjuk.specs.Answers.{digits_or_refusal, count_status, count_or};
+ghost use Rattle.meltsjuk.specs.Answers.{digits_or_refusal, status, value_or};
 ghost use Rattle.meltsjuk.specs.Answers.{outcome_status, number_or, position_or, parts_or};
 ghost use Rattle.meltsjuk.specs.Answers.{limits_of, prices_of, best_asked, price_or, cheapest_asked, place_asked};
 ghost use Rattle.meltsjuk.specs.Answers.{tree_chain_asked, tree_asked, tree_status, letters_or};
-ghost use Rattle.meltsjuk.specs.Answers.{run_status, residue_or};
-ghost use Rattle.meltsjuk.specs.Answers.{bench_status, walk_status, moves_or, walked_parts_or};
-ghost use Rattle.meltsjuk.specs.Answers.{tell_status, told_number_or, told_parts_or};
+ghost use Rattle.meltsjuk.specs.Answers.{moves_or, walked_parts_or};
+ghost use Rattle.meltsjuk.specs.Answers.{told_number_or, told_parts_or};
 
-use bench::{Benched, Told, Walked};
-use best::{Best, Chosen, Limits, Prices};
-use counting::Counted;
-use frames::Replied;
-use ranking::{Found, Position};
-use running::Ran;
-use words::Written;
+use best::{Limits, Prices};
+use refusals::Refusal;
+
+// Puts the number that a service told where the caller asks for it. Answers 0, or the number of the refusal, and `place` is as it was.
+fn put(told: Result<u64, Refusal>, place: &mut u64) -> u8
+    ensures answer { result ≡ status told }
+    ensures place { place.new ≡ value_or told place.old }
+{
+    match told {
+        Ok(value) => {
+            *place = value;
+            0
+        }
+        Err(refusal) => u8::from(refusal),
+    }
+}
+
+// The same of a service that tells no number.
+fn status(done: Result<(), Refusal>) -> u8
+    ensures { result ≡ status done }
+{
+    match done {
+        Ok(()) => 0,
+        Err(refusal) => u8::from(refusal),
+    }
+}
 
 // Replying to one line, without its byte 10, as `frames::reply` does. Answers how many digits the reply in `out` has, two where the
 // line is refused; or 1, which is no length, where too little is lent, and nothing is touched.
@@ -41,25 +59,19 @@ pub extern "C" fn meltsjuk_reply(line: &[u8], scratch: &mut [u64], out: &mut [u8
         ≡ scratch_left (too_little 514 scratch.old out.old) scratch.old }
 {
     match frames::reply(line, scratch, out) {
-        Replied::Digits(digits) => digits,
-        Replied::Refused(number) => if number == 1 { 1 } else { 2 },
+        Ok(digits) => digits,
+        Err(refusal) => if refusal == Refusal::LittleLent { 1 } else { 2 },
     }
 }
 
 // The count of n, as `counting::table_count` has it. Answers 0 with the count put in `count`, or 1, and `count` is as it was.
 #[unsafe(no_mangle)]
 pub extern "C" fn meltsjuk_count(n: u64, scratch: &mut [u64], count: &mut u64) -> u8
-    ensures answer { result ≡ count_status (counted_of n scratch.old) }
-    ensures count { count.new ≡ count_or (counted_of n scratch.old) count.old }
+    ensures answer { result ≡ status (counted_of n scratch.old) }
+    ensures count { count.new ≡ value_or (counted_of n scratch.old) count.old }
     ensures scratch { scratch.new ≡ scratch_left (little_scratch scratch.old) scratch.old }
 {
-    match counting::table_count(n, scratch) {
-        Counted::Count(counted) => {
-            *count = counted;
-            0
-        }
-        Counted::Refused(number) => number,
-    }
+    put(counting::table_count(n, scratch), count)
 }
 
 // How many chains of n have at most `parts` parts, as `limited::count_up_to` counts them. Answers 0 with the count put in `count`, or
@@ -71,18 +83,12 @@ pub extern "C" fn meltsjuk_count_up_to(
     scratch: &mut [u64],
     count: &mut u64,
 ) -> u8
-    ensures answer { result ≡ count_status (counted_up_to parts n scratch.old) }
-    ensures count { count.new ≡ count_or (counted_up_to parts n scratch.old) count.old }
+    ensures answer { result ≡ status (counted_up_to parts n scratch.old) }
+    ensures count { count.new ≡ value_or (counted_up_to parts n scratch.old) count.old }
     ensures scratch { scratch.new
         ≡ memory_left table_size (fewer table_size scratch.old) scratch.old }
 {
-    match limited::count_up_to(n, parts, scratch) {
-        Counted::Count(counted) => {
-            *count = counted;
-            0
-        }
-        Counted::Refused(refusal) => refusal,
-    }
+    put(limited::count_up_to(n, parts, scratch), count)
 }
 
 // These two put the numbers that a caller hands over into limits and prices.
@@ -151,17 +157,13 @@ pub extern "C" fn meltsjuk_best(
     let limits = limits_by(parts_limit, a_limit, b_limit);
     let prices = prices_by(d, t, s2, s3);
     match best::best_chain(n, limits, prices, scratch, places) {
-        Best::Chain {
-            position: i,
-            k: parts,
-            price: cost,
-        } => {
-            *position = i;
-            *k = parts;
-            *price = cost;
+        Ok(best) => {
+            *position = best.position;
+            *k = best.k;
+            *price = best.price;
             0
         }
-        Best::Refused(number) => number,
+        Err(refusal) => u8::from(refusal),
     }
 }
 
@@ -203,15 +205,12 @@ pub extern "C" fn meltsjuk_choose(
     let limits = limits_by(parts_limit, a_limit, b_limit);
     let prices = prices_by(d, t, s2, s3);
     match best::choose_chain(n, limits, prices, scratch, places) {
-        Chosen::Chain {
-            k: parts,
-            price: cost,
-        } => {
-            *k = parts;
-            *price = cost;
+        Ok(chosen) => {
+            *k = chosen.k;
+            *price = chosen.price;
             0
         }
-        Chosen::Refused(number) => number,
+        Err(refusal) => u8::from(refusal),
     }
 }
 
@@ -253,15 +252,12 @@ pub extern "C" fn meltsjuk_cheapest(
     let limits = limits_by(parts_limit, a_limit, b_limit);
     let prices = prices_by(d, t, s2, s3);
     match limited::cheapest_chain(n, limits, prices, scratch, places) {
-        Chosen::Chain {
-            k: parts,
-            price: cost,
-        } => {
-            *k = parts;
-            *price = cost;
+        Ok(chosen) => {
+            *k = chosen.k;
+            *price = chosen.price;
             0
         }
-        Chosen::Refused(number) => number,
+        Err(refusal) => u8::from(refusal),
     }
 }
 
@@ -275,29 +271,17 @@ pub extern "C" fn meltsjuk_place(numbers: &[u16], scratch: &mut [u64], position:
         ≡ position_or (place_asked scratch.old numbers.now) position.old }
     ensures scratch { scratch.new ≡ scratch_left (little_scratch scratch.old) scratch.old }
 {
-    match ranking::place_record(numbers, scratch) {
-        Position::At(told) => {
-            *position = told;
-            0
-        }
-        Position::Refused(number) => number,
-    }
+    put(ranking::place_record(numbers, scratch), position)
 }
 
 // The chain whose part numbers are `numbers`, largest part first, run on x modulo m, as `running::run_chain` does. Answers 0 with
 // the residue put in `residue`, or 13, 14, 8, 9 or 10, and `residue` is as it was.
 #[unsafe(no_mangle)]
 pub extern "C" fn meltsjuk_run(numbers: &[u16], m: u64, x: u64, residue: &mut u64) -> u8
-    ensures answer { result ≡ run_status (ran_of numbers.now m x) }
-    ensures residue { residue.new ≡ residue_or (ran_of numbers.now m x) residue.old }
+    ensures answer { result ≡ status (ran_of numbers.now m x) }
+    ensures residue { residue.new ≡ value_or (ran_of numbers.now m x) residue.old }
 {
-    match running::run_chain(numbers, m, x) {
-        Ran::Residue(run) => {
-            *residue = run;
-            0
-        }
-        Ran::Refused(number) => number,
-    }
+    put(running::run_chain(numbers, m, x), residue)
 }
 
 // The chain of the tree word `letters`, as `trees::read_tree` finds it, its part numbers in the places. Answers 0 with the number
@@ -325,17 +309,13 @@ pub extern "C" fn meltsjuk_read_tree(
         ≡ scratch_left (too_little 64 scratch.old places.old) scratch.old }
 {
     match trees::read_tree(letters, scratch, places) {
-        Found::Chain {
-            n: sum,
-            position: index,
-            k: parts,
-        } => {
-            *n = sum;
-            *position = index;
-            *k = parts;
+        Ok(found) => {
+            *n = found.n;
+            *position = found.position;
+            *k = found.k;
             0
         }
-        Found::Refused(number) => number,
+        Err(refusal) => u8::from(refusal),
     }
 }
 
@@ -348,85 +328,64 @@ pub extern "C" fn meltsjuk_write_tree(numbers: &[u16], places: &mut [u8], k: &mu
     ensures places { places.new
         ≡ tree_left (tree_asked places.old numbers.now) places.old }
 {
-    match trees::write_tree(numbers, places) {
-        Written::Letters(letters) => {
-            *k = letters;
-            0
-        }
-        Written::Refused(number) => number,
-    }
+    put(trees::write_tree(numbers, places), k)
 }
 
 // Opens a bench on the chain whose part numbers are `numbers`, largest part first, as `bench::open_bench` does. Answers 0, and the
 // bench holds the chain with no name saved; or 1, 8, 9 or 10, and the bench is as it was.
 #[unsafe(no_mangle)]
 pub extern "C" fn meltsjuk_open_bench(numbers: &[u16], bench: &mut [u64]) -> u8
-    ensures answer { result ≡ bench_status (open_outcome numbers.now bench.old) }
+    ensures answer { result ≡ status (open_outcome numbers.now bench.old) }
     ensures bench { bench.new
         ≡ bench_left (open_outcome numbers.now bench.old) bench.old }
 {
-    match bench::open_bench(numbers, bench) {
-        Benched::Done => 0,
-        Benched::Refused(number) => number,
-    }
+    status(bench::open_bench(numbers, bench))
 }
 
 // A move of the present chain, of kind 1 or 2, up or down, at a row, as `bench::move_chain` makes it. Answers 0; or 1 or 17, and
 // the bench is as it was.
 #[unsafe(no_mangle)]
 pub extern "C" fn meltsjuk_move(bench: &mut [u64], kind: u8, up: bool, row: u8) -> u8
-    ensures answer { result ≡ bench_status (move_outcome kind up row bench.old) }
+    ensures answer { result ≡ status (move_outcome kind up row bench.old) }
     ensures bench { bench.new ≡ bench_left (move_outcome kind up row bench.old) bench.old }
 {
-    match bench::move_chain(bench, kind, up, row) {
-        Benched::Done => 0,
-        Benched::Refused(number) => number,
-    }
+    status(bench::move_chain(bench, kind, up, row))
 }
 
 // Saves the present chain under a name, as `bench::save_chain` does. Answers 0; or 1, 17 or 18, and the bench is as it was.
 #[unsafe(no_mangle)]
 pub extern "C" fn meltsjuk_save(bench: &mut [u64], name: u8) -> u8
-    ensures answer { result ≡ bench_status (save_outcome name bench.old) }
+    ensures answer { result ≡ status (save_outcome name bench.old) }
     ensures bench { bench.new ≡ bench_left (save_outcome name bench.old) bench.old }
 {
-    match bench::save_chain(bench, name) {
-        Benched::Done => 0,
-        Benched::Refused(number) => number,
-    }
+    status(bench::save_chain(bench, name))
 }
 
 // Comes back to the chain saved under a name, as `bench::come_back` does. Answers 0; or 1, 17 or 18, and the bench is as it was.
 #[unsafe(no_mangle)]
 pub extern "C" fn meltsjuk_come_back(bench: &mut [u64], name: u8) -> u8
-    ensures answer { result ≡ bench_status (back_outcome name bench.old) }
+    ensures answer { result ≡ status (back_outcome name bench.old) }
     ensures bench { bench.new ≡ bench_left (back_outcome name bench.old) bench.old }
 {
-    match bench::come_back(bench, name) {
-        Benched::Done => 0,
-        Benched::Refused(number) => number,
-    }
+    status(bench::come_back(bench, name))
 }
 
 // Walks the present chain down to the binary one, as `bench::walk_chain` does. Answers 0 with the number of moves and the number of
 // parts of the binary chain put in `moves` and `k`; or 1 or 17, and the bench and the two are as they were.
 #[unsafe(no_mangle)]
 pub extern "C" fn meltsjuk_walk(bench: &mut [u64], moves: &mut u64, k: &mut u64) -> u8
-    ensures answer { result ≡ walk_status (walked_of bench.old) }
+    ensures answer { result ≡ status (walked_of bench.old) }
     ensures moves { moves.new ≡ moves_or (walked_of bench.old) moves.old }
     ensures k { k.new ≡ walked_parts_or (walked_of bench.old) k.old }
     ensures bench { bench.new ≡ walk_left bench.old }
 {
     match bench::walk_chain(bench) {
-        Walked::Walk {
-            moves: made,
-            k: parts,
-        } => {
-            *moves = made;
-            *k = parts;
+        Ok(walked) => {
+            *moves = walked.moves;
+            *k = walked.k;
             0
         }
-        Walked::Refused(number) => number,
+        Err(refusal) => u8::from(refusal),
     }
 }
 
@@ -434,17 +393,17 @@ pub extern "C" fn meltsjuk_walk(bench: &mut [u64], moves: &mut u64, k: &mut u64)
 // number of parts put in `n` and `k`; or 1 or 17, and the places and the two are as they were.
 #[unsafe(no_mangle)]
 pub extern "C" fn meltsjuk_tell(bench: &[u64], places: &mut [u16], n: &mut u64, k: &mut u64) -> u8
-    ensures answer { result ≡ tell_status (told_of bench.now places.old) }
+    ensures answer { result ≡ status (told_of bench.now places.old) }
     ensures n { n.new ≡ told_number_or (told_of bench.now places.old) n.old }
     ensures k { k.new ≡ told_parts_or (told_of bench.now places.old) k.old }
     ensures places { places.new ≡ toldLeft bench.now places.old }
 {
     match bench::tell_chain(bench, places) {
-        Told::Chain { n: held, k: parts } => {
-            *n = held;
-            *k = parts;
+        Ok(told) => {
+            *n = told.n;
+            *k = told.k;
             0
         }
-        Told::Refused(number) => number,
+        Err(refusal) => u8::from(refusal),
     }
 }

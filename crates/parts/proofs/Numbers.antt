@@ -1,7 +1,7 @@
 -- The part table and part numbers: document 01, 'Parts and chains'. In this order: the tests of the table, each computed once over
 -- all of it (count, ascent, product form, completeness); what they say of each entry, of each point and of each part; and that
 -- numbers and parts lead to each other. The definitions are in Table and Parts, the laws that carry a test to each entry in Tests.
-use Rattle.std.specs.Prelude.{◌≡◌, refl, Bool, true, false, ◌&&◌, ℕ, ◌+◌, ◌*◌, ◌^◌, ◌/◌, ◌≤◌, ◌<◌, ltb, leb, length}
+use Rattle.std.specs.Prelude.{◌≡◌, refl, Some, None, Bool, true, false, ◌&&◌, ℕ, ◌+◌, ◌*◌, ◌^◌, ◌/◌, ◌≤◌, ◌<◌, ltb, leb, length}
 use Rattle.std.proofs.Common.{sym, ◌∙◌, le_of_suc-le-suc, lt_of_not-le, arith, ltb→lt, lt-ltb, le-ltb}
 use Rattle.std.proofs.Math.Dec.{T, eqb, leb→le, eqb→eq}
 use Rattle.std.specs.Float.Ieee.Fits.{and_l, and_r}
@@ -11,7 +11,6 @@ use Rattle.chains.proofs.Divides.{value_pos, value_unique}
 use Rattle.chains.proofs.Bounds.{part_bounds}
 use Rattle.parts.specs.Table.{rows, joined, parts}
 use Rattle.parts.specs.Parts.{limit, times, part_at, part_number, number_of}
-use Rattle.parts.specs.declared.Number.TheVariants.{At, None}
 use Rattle.parts.proofs.Tests.{each, at_each, below, at_below, ascending, ascending_pair, smaller_at, all_smaller}
 use Rattle.parts.proofs.Tests.{in_32s, look, look_joined}
 
@@ -148,7 +147,7 @@ pub number_none : (p : Part) → (value p < limit → ⊥) → number_of p ≡ N
 unfolding number_of
 number_none p h = rw (le-ltb (value p) limit (le_of_suc-le-suc (lt_of_not-le h)))
 
-pub number_at : (p : Part) → value p < limit → number_of p ≡ At (part_number p)
+pub number_at : (p : Part) → value p < limit → number_of p ≡ Some (part_number p)
 unfolding number_of
 number_at p h = rw (lt-ltb (value p) limit h)
 

@@ -1,13 +1,9 @@
 -- Part numbers: document 01, 'Parts and chains'. A part's number is its index in the part table, from 0.
 -- Definitions only; the theory is in Numbers.
-use Rattle.std.specs.Prelude.{Bool, true, false, cond, ◌&&◌, List, [], ◌∷◌, map, ℕ, zero, suc, ◌+◌, ◌^◌, ◌/◌, ◌%◌, ltb, eqb, get_or}
+use Rattle.std.specs.Prelude.{Bool, true, false, cond, Option, Some, None, ◌&&◌, List, [], ◌∷◌, map, ℕ, zero, suc, ◌+◌, ◌^◌, ◌/◌, ◌%◌, ltb, eqb, get_or}
 use Rattle.chains.specs.Chains.{Part, value}
 use Rattle.chains.specs.Listing.{one_if}
 use Rattle.parts.specs.Table.{parts}
-use Rattle.parts.specs.declared.Number.{Number}
-use Rattle.parts.specs.declared.Number.TheVariants.{At, None}
-use Rattle.parts.specs.declared.Sum.{Sum}
-use Rattle.parts.specs.declared.Sum.TheVariants.{Fits, Over}
 
 -- Parts and numbers are below this.
 abbrev pub limit : ℕ
@@ -55,8 +51,8 @@ unfoldable pub part_number : Part → ℕ
 part_number p = smaller (value p) parts
 
 -- The answer of `number_of`: the part's number, or none where 2^a × 3^b is 2^64 or more.
-unfoldable pub number_of : Part → Number
-number_of p = cond (ltb (value p) limit) (At (part_number p)) None
+unfoldable pub number_of : Part → Option ℕ
+number_of p = cond (ltb (value p) limit) (Some (part_number p)) None
 
 -- ---- sums
 
@@ -66,5 +62,5 @@ sum_at t [] = 0
 sum_at t (i ∷ is) = get_or t i 0 + sum_at t is
 
 -- The answer of `sum_of`: a number below 2^64, or that it is larger.
-unfoldable pub sum_of : ℕ → Sum
-sum_of n = cond (ltb n limit) (Fits n) Over
+unfoldable pub sum_of : ℕ → Option ℕ
+sum_of n = cond (ltb n limit) (Some n) None

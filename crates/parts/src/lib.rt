@@ -16,25 +16,11 @@ pub struct Exponents {
     pub b: u64,
 }
 
-// The number of a part, or none where it is 2^64 or more.
-#[derive(Drop)]
-pub enum Number {
-    At(u16),
-    None,
-}
-
-// A sum, or that it is 2^64 or more.
-#[derive(Drop)]
-pub enum Sum {
-    Fits(u64),
-    Over,
-}
-
 // The entry of a lent table that a part number names; 0 past the end.
 pub fn value_of(table: &[u64], number: u16) -> u64
     ensures { result ≡ get_or table.now number 0 }
 {
-    let i = number as usize;
+    let i = usize::from(number);
     if i < table.len() { table[i] } else { 0 }
 }
 
@@ -46,12 +32,12 @@ pub fn exponents_of(v: u64) -> Exponents
     if v == 0 {
         return Exponents { a: 0, b: 0 };
     }
-    let a = u64::trailing_zeros(v);
+    let a = v.trailing_zeros();
     let odd = v >> a;
-    let length = 64 - u64::leading_zeros(odd);
+    let length = 64 - odd.leading_zeros();
     Exponents {
-        a: a as u64,
-        b: (length as u64) * 323 / 512,
+        a: u64::from(a),
+        b: u64::from(length) * 323 / 512,
     }
 }
 
@@ -64,13 +50,13 @@ pub fn exponents_at(number: u16) -> Exponents
     if number >= 1344 {
         return Exponents { a: 0, b: 0 };
     }
-    let i = number as u64;
+    let i = u64::from(number);
     let l = octaves::octave_at(i);
     let first = octaves::parts_below(l);
     let most = octaves::parts_below(l + 1) - first - 1;
     let b = octaves::triplings_at(most, i - first);
     let a = l - 1623 * b / 1024;
-    Exponents { a: a, b: b }
+    Exponents { a, b }
 }
 
 // How many entries of the table are smaller than 2^a × 3^b. Below 2^64 this is the part's number; else it is 1344, which is no
@@ -78,29 +64,26 @@ pub fn exponents_at(number: u16) -> Exponents
 pub fn part_number(a: u64, b: u64) -> u16
     ensures { result ≡ part_number (record { a = a; b = b }) }
 {
-    match number_of(a, b) {
-        Number::At(number) => number,
-        Number::None => 1344,
-    }
+    number_of(a, b).unwrap_or(1344)
 }
 
-// The number of the part 2^a × 3^b, by arithmetic alone. For b up to 40, 3^b has 1623 b / 1024 binary digits after the first. The
+// The number of the part 2^a × 3^b, or none where it is 2^64 or more, by arithmetic alone. For b up to 40, 3^b has 1623 b / 1024 binary digits after the first. The
 // smaller parts are the a × b with both exponents smaller, those with b alone smaller and those with a alone smaller: how many the
 // latter two are is told by a quadratic in b and one in a.
-pub fn number_of(a: u64, b: u64) -> Number
+pub fn number_of(a: u64, b: u64) -> Option<u16>
     ensures { result ≡ number_of (record { a = a; b = b }) }
 {
     if a > 63 {
-        return Number::None;
+        return None;
     }
     if b > 40 {
-        return Number::None;
+        return None;
     }
     if a + 1623 * b / 1024 > 63 {
-        return Number::None;
+        return None;
     }
     let number = a * b + (b * (203 * b + 328) + 180) / 256 + (a * (323 * a + 832) + 400) / 1024;
-    Number::At(number as u16)
+    Some(number as u16)
 }
 
 // The number of a record's largest part, which comes first; 1344, which is no part's number, for the record of no parts.
@@ -145,19 +128,13 @@ pub fn is_proper_multiple(x: u64, y: u64) -> bool
     x % y == 0
 }
 
-// The sum of the parts that `numbers` name in a lent table, or that it is 2^64 or more.
-pub fn sum_of(table: &[u64], numbers: &[u16]) -> Sum
+// The sum of the parts that `numbers` name in a lent table; none where it is 2^64 or more.
+pub fn sum_of(table: &[u64], numbers: &[u16]) -> Option<u64>
     ensures { result ≡ sum_of (sum_at table.now numbers.now) }
 {
     let mut sum: u64 = 0;
-    let mut i = 0;
-    while i < numbers.len() {
-        let v = value_of(table, numbers[i]);
-        if u64::MAX - sum < v {
-            return Sum::Over;
-        }
-        sum += v;
-        i += 1;
+    for number in numbers {
+        sum = sum.checked_add(value_of(table, *number))?;
     }
-    Sum::Fits(sum)
+    Some(sum)
 }

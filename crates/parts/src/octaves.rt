@@ -29,11 +29,9 @@ fn last_from(first: u64, step: u64, number: u64) -> u64
 {
     let mut l = first;
     let mut next = first + step;
-    let mut left: u64 = 7;
-    while left > 0 {
+    for _ in 0..7u8 {
         l = later_of(number, next, l);
         next += step;
-        left -= 1;
     }
     l
 }
@@ -78,12 +76,10 @@ pub fn triplings_at(most: u64, j: u64) -> u64
     let mut b = 0;
     let mut r = 0;
     let mut start = 0;
-    let mut left: u64 = 12;
-    while left > 0 {
+    for _ in 0..12u8 {
         b = in_group(j, r, start, b);
         start += (most + 12 - r) / 12;
         r = next_group(r);
-        left -= 1;
     }
     b
 }

@@ -1,6 +1,8 @@
 -- The outcomes of the services, for chains and words of document 01 and 003.
 -- For each service in turn: what it gives for a chain of n; that it gives nothing but a chain of n, with its position. Which
 -- refusal a word or a record gets is in Refusals, round trips between the services are in RoundTrips.
+use Rattle.std.specs.Prelude.{Some}
+use Rattle.std.specs.Prelude.{None, Result, Ok, Err}
 use Rattle.std.specs.Prelude.{◌≡◌, refl, ◌↔◌, Bool, true, false, cond, ℕ, ◌+◌, ◌^◌, ◌≤◌, ◌<◌, T, ltb, leb}
 use Rattle.std.proofs.Common.{sym, ap, ◌∙◌, arith, ltb→lt, leb→le, le→leb, lt-ltb, le-leb}
 use Rattle.std.proofs.Math.Logic.Iff
@@ -15,39 +17,38 @@ use Rattle.chains.proofs.Members.{list_holds}
 use Rattle.chains.proofs.Readers.{readers_good}
 use Rattle.chains.proofs.RoundTrip.{chain_word_chain, word_chained, word_chain_word, word_reads}
 use Rattle.chains.proofs.PositionsOfChains.{chain_at_chain, position_at, at_position_lem}
+use Rattle.refusals.specs.declared.Refusal.{Refusal}
+use Rattle.refusals.specs.declared.Refusal.TheVariants.{NoSuchPosition, BadWord, TooLarge, LastOfList}
 use Rattle.parts.specs.Parts.{part_number}
 use Rattle.words.specs.TestLaws.{in_first}
 use Rattle.words.specs.Records.{record_parts, judged_of}
 use Rattle.words.specs.RecordLaws.{in_table, judged_sum}
 use Rattle.words.specs.WordLaws.{parts_of_numbers, numbers_of_parts, chain_judged}
 use Rattle.words.specs.Answers.{sized, weighed_of}
-use Rattle.words.specs.declared.Weighed.TheVariants.{Number, Over}
-use Rattle.words.specs.declared.Judged.{Judged}
-use Rattle.words.specs.declared.Judged.TheVariants as judged
 use Rattle.ranking.specs.Services.{Outcome, refused, gives, standing, at_position, of_word, after, next_of, judged_as}
 use Rattle.ranking.specs.Services.{of_record}
 
 -- ---- refusals
 
 -- Refusals of different numbers differ, and a chain is no refusal.
-pub same_refusal : (r s : ℕ) → refused r ≡ refused s → r ≡ s
+pub same_refusal : (r s : Refusal) → refused r ≡ refused s → r ≡ s
 same_refusal r s e = cc
 
-pub no_refusal : (n : ℕ) (c : List Part) (r : ℕ) → ¬ (gives n c ≡ refused r)
+pub no_refusal : (n : ℕ) (c : List Part) (r : Refusal) → ¬ (gives n c ≡ refused r)
 no_refusal n c r e = let z : ◌≡◌ {A = ℕ} 0 1 = cc in omega arith
 
 -- ---- at a position
 
-pub standing_below : (r n i : ℕ) → i < count n → standing r n i ≡ gives n (chain_at n i)
+pub standing_below : (r : Refusal) (n i : ℕ) → i < count n → standing r n i ≡ gives n (chain_at n i)
 unfolding standing
 standing_below r n i h = rw (lt-leb (count n) i h)
 
-pub standing_past : (r n i : ℕ) → count n ≤ i → standing r n i ≡ refused r
+pub standing_past : (r : Refusal) (n i : ℕ) → count n ≤ i → standing r n i ≡ refused r
 unfolding standing
 standing_past r n i h = rw (le-leb (count n) i h)
 
 -- The refusal is r, and exactly past the count.
-pub standing_refused : (r n i s : ℕ) → (standing r n i ≡ refused s) ↔ ((s ≡ r) × (count n ≤ i))
+pub standing_refused : (r : Refusal) (n i : ℕ) (s : Refusal) → (standing r n i ≡ refused s) ↔ ((s ≡ r) × (count n ≤ i))
 unfolding standing
 standing_refused r n i s =
     let c = chain_at n i in
@@ -61,17 +62,17 @@ standing_refused r n i s =
 
 pub at_below : (n i : ℕ) → i < count n → at_position n i ≡ gives n (chain_at n i)
 unfolding at_position
-at_below n i h = standing_below 6 n i h
+at_below n i h = standing_below NoSuchPosition n i h
 
 -- Past the count the refusal is 6.
-pub at_past : (n i : ℕ) → count n ≤ i → at_position n i ≡ refused 6
+pub at_past : (n i : ℕ) → count n ≤ i → at_position n i ≡ refused NoSuchPosition
 unfolding at_position
-at_past n i h = standing_past 6 n i h
+at_past n i h = standing_past NoSuchPosition n i h
 
 -- And exactly there.
-pub at_refused : (n i : ℕ) → (at_position n i ≡ refused 6) ↔ (count n ≤ i)
+pub at_refused : (n i : ℕ) → (at_position n i ≡ refused NoSuchPosition) ↔ (count n ≤ i)
 unfolding at_position
-at_refused n i = Iff.trans (standing_refused 6 n i 6) (λ g. g.1, λ l. (refl, l))
+at_refused n i = Iff.trans (standing_refused NoSuchPosition n i NoSuchPosition) (λ g. g.1, λ l. (refl, l))
 
 -- A chain of n is given at its position.
 pub at_chain : (n : ℕ) (c : List Part) → ChainOf n c → at_position n (position n c) ≡ gives n c
@@ -111,10 +112,10 @@ unfolding of_word
 of_gives w n c e =
     let t = total (chain_of w) in
     let (good, f) =
-    (in_first (reads true w) (cond (ltb t (2 ^ 64)) (gives t (chain_of w)) (refused 10)) (refused 7) (gives n c)
-    (λ g. no_refusal n c 7 (sym g))).0 e in
+    (in_first (reads true w) (cond (ltb t (2 ^ 64)) (gives t (chain_of w)) (refused TooLarge)) (refused BadWord) (gives n c)
+    (λ g. no_refusal n c BadWord (sym g))).0 e in
     let (fits, g) =
-    (in_first (ltb t (2 ^ 64)) (gives t (chain_of w)) (refused 10) (gives n c) (λ g. no_refusal n c 10 (sym g))).0 f in
+    (in_first (ltb t (2 ^ 64)) (gives t (chain_of w)) (refused TooLarge) (gives n c) (λ g. no_refusal n c TooLarge (sym g))).0 f in
     let same : chain_of w ≡ c = cc g in
     let number : total (chain_of w) ≡ n = cc g in (
       rw (number, same) at (word_chain w),
@@ -123,7 +124,7 @@ of_gives w n c e =
     )
 
 -- A good word by what it weighs.
-pub of_weighed : (w : Word) (n : ℕ) → T (reads true w) → weighed_of w ≡ Number n
+pub of_weighed : (w : Word) (n : ℕ) → T (reads true w) → weighed_of w ≡ Some n
     → (of_word w ≡ gives n (chain_of w)) × Memᴰ w (list_of n)
 unfolding weighed_of sized of_word
 of_weighed w n h e = go (ltb (total (chain_of w)) (2 ^ 64)) refl
@@ -138,11 +139,11 @@ of_weighed w n h e = go (ltb (total (chain_of w)) (2 ^ 64)) refl
         let z : ◌≡◌ {A = ℕ} 0 1 = cc k in
         absurd (omega arith)
 
-pub of_over : (w : Word) → T (reads true w) → weighed_of w ≡ Over → of_word w ≡ refused 10
+pub of_over : (w : Word) → T (reads true w) → weighed_of w ≡ None → of_word w ≡ refused TooLarge
 unfolding weighed_of sized of_word
 of_over w h e = go (ltb (total (chain_of w)) (2 ^ 64)) refl
   where
-    go : (f : Bool) → ltb (total (chain_of w)) (2 ^ 64) ≡ f → of_word w ≡ refused 10
+    go : (f : Bool) → ltb (total (chain_of w)) (2 ^ 64) ≡ f → of_word w ≡ refused TooLarge
     go true fits =
         let k = rw fits at e in
         let z : ◌≡◌ {A = ℕ} 0 1 = cc k in
@@ -159,18 +160,18 @@ position_word w n h = rw (word_chain_word w h)
 -- After c comes the chain at the next position; 11 where there is none.
 after_below : (n : ℕ) (c : List Part) → position n c + 1 < count n → after n c ≡ at_position n (position n c + 1)
 unfolding after
-after_below n c l = standing_below 11 n (position n c + 1) l ∙ sym (at_below n (position n c + 1) l)
+after_below n c l = standing_below LastOfList n (position n c + 1) l ∙ sym (at_below n (position n c + 1) l)
 
-pub after_last : (n : ℕ) (c : List Part) → count n ≤ position n c + 1 → after n c ≡ refused 11
+pub after_last : (n : ℕ) (c : List Part) → count n ≤ position n c + 1 → after n c ≡ refused LastOfList
 unfolding after
-after_last n c l = standing_past 11 n (position n c + 1) l
+after_last n c l = standing_past LastOfList n (position n c + 1) l
 
 -- The refusal is 11, and exactly after the last chain.
-pub after_refused : (n : ℕ) (c : List Part) → ChainOf n c → (r : ℕ)
-    → (after n c ≡ refused r) ↔ ((r ≡ 11) × (position n c + 1 ≡ count n))
+pub after_refused : (n : ℕ) (c : List Part) → ChainOf n c → (r : Refusal)
+    → (after n c ≡ refused r) ↔ ((r ≡ LastOfList) × (position n c + 1 ≡ count n))
 unfolding after
 after_refused n c h r =
-    Iff.trans (standing_refused 11 n (position n c + 1) r)
+    Iff.trans (standing_refused LastOfList n (position n c + 1) r)
     (Iff.and Iff.rfl (λ l. omega (arith, (at_position_lem n c h).0), λ e. omega arith))
 
 -- The same of the word of a chain c of n.
@@ -180,7 +181,7 @@ unfolding next_of
 next_below n c h f l = rw (of_chain n c h f) (after_below n c l)
 
 pub next_last : (n : ℕ) (c : List Part) → ChainOf n c → n < 2 ^ 64 → position n c + 1 ≡ count n
-    → next_of (of_word (word_of c)) ≡ refused 11
+    → next_of (of_word (word_of c)) ≡ refused LastOfList
 unfolding next_of
 next_last n c h f l = rw (of_chain n c h f) (after_last n c (omega arith))
 
@@ -220,8 +221,8 @@ pub record_gives : (l : List ℕ) (n : ℕ) (c : List Part) → of_record l ≡ 
 unfolding of_record judged_as
 record_gives l n c e = go (judged_of l) refl
   where
-    go : (j : Judged) → judged_of l ≡ j → ChainOf n c × (map part_number c ≡ l) × (n < 2 ^ 64)
-    go (judged.Sum m) f =
+    go : (j : Result ℕ Refusal) → judged_of l ≡ j → ChainOf n c × (map part_number c ≡ l) × (n < 2 ^ 64)
+    go (Ok m) f =
         let k = rw f at e in
         let b = (judged_sum l m).0 f in
         let same : record_parts l ≡ c = cc k in
@@ -230,7 +231,7 @@ record_gives l n c e = go (judged_of l) refl
           ap (map part_number) (sym same) ∙ numbers_of_parts l ((in_table l).1 b.known),
           rw number at b.fits,
         )
-    go (judged.Refused r) f =
+    go (Err r) f =
         let k = rw f at e in
         let z : ◌≡◌ {A = ℕ} 0 1 = cc k in
         absurd (omega arith)
@@ -240,6 +241,6 @@ pub record_sum : (l : List ℕ) (n : ℕ) (c : List Part) → of_record l ≡ gi
 unfolding of_record judged_as
 record_sum l n c e = go (judged_of l) refl
   where
-    go : (j : Judged) → judged_of l ≡ j → total (record_parts l) ≡ n
-    go (judged.Sum m) f = let number : m ≡ n = cc (rw f at e) in ((judged_sum l m).0 f).chain.sums ∙ number
-    go (judged.Refused r) f = let z : ◌≡◌ {A = ℕ} 0 1 = cc (rw f at e) in absurd (omega arith)
+    go : (j : Result ℕ Refusal) → judged_of l ≡ j → total (record_parts l) ≡ n
+    go (Ok m) f = let number : m ≡ n = cc (rw f at e) in ((judged_sum l m).0 f).chain.sums ∙ number
+    go (Err r) f = let z : ◌≡◌ {A = ℕ} 0 1 = cc (rw f at e) in absurd (omega arith)

@@ -3,6 +3,7 @@
 -- services for a chain of n; from a record to the chain at its position and back; from a word to its record and back; from a word to
 -- the next one.
 -- That the outcomes are 003's chains and their positions, each as the service's definition has it, is in Outcomes.
+use Rattle.std.specs.Prelude.{Result, Ok, Err}
 use Rattle.std.specs.Prelude.{◌≡◌, refl, ◌↔◌, Bool, true, false, cond, List, map, ℕ, ◌+◌, ◌^◌, ◌≤◌, ◌<◌, length, take}
 use Rattle.std.proofs.Common.{sym, ap, ◌∙◌, arith}
 use Rattle.std.proofs.Math.Logic.Iff
@@ -12,20 +13,18 @@ use Rattle.chains.specs.Chains.{Part, total, ChainOf}
 use Rattle.chains.specs.Words.{Word, word_of}
 use Rattle.chains.specs.Listing.{count, position}
 use Rattle.lent.specs.Lent.{filled, scratch_size, little_scratch, too_little, Enough, Lends}
+use Rattle.refusals.specs.declared.Refusal.{Refusal}
+use Rattle.refusals.specs.declared.Refusal.TheVariants.{LittleLent, NoSuchPosition, LastOfList}
 use Rattle.parts.specs.Parts.{part_number}
 use Rattle.words.specs.Records.{record_parts}
 use Rattle.words.specs.Conversions.{written_of, letters_left}
 use Rattle.words.specs.WordLaws.{chain_written}
-use Rattle.words.specs.declared.Written.TheVariants as written
+use Rattle.ranking.specs.declared.Found.{Found}
 use Rattle.ranking.specs.Services.{Outcome, refused, gives, lent, lent_of, lent_scratch, answer_of, places_left}
 use Rattle.ranking.specs.Services.{placed_of, position_of, at_position, of_word, after, next_of, of_record}
 use Rattle.ranking.specs.Outcomes.{no_refusal, at_refused, at_chain, at_gives, of_chain, of_gives}
 use Rattle.ranking.specs.Outcomes.{after_refused, next_below, next_last, next_gives, record_chain, record_gives, record_sum}
 use Rattle.ranking.specs.declared.Placed.{Placed}
-use Rattle.ranking.specs.declared.Placed.TheVariants as placed
-use Rattle.ranking.specs.declared.Position.{Position}
-use Rattle.ranking.specs.declared.Position.TheVariants as told
-use Rattle.ranking.specs.declared.Found.TheVariants as found
 
 -- ---- answers and outcomes
 
@@ -43,59 +42,68 @@ unfolding lent_scratch
 lent_scratch_lem scratch o h = rw (scratch_enough scratch h)
 
 -- A refusal is answered exactly if the outcome is one,
-pub answer_refused : (o : Outcome) (r : ℕ) → (answer_of o ≡ found.Refused r) ↔ (o ≡ refused r)
+pub answer_refused : (o : Outcome) (r : Refusal) → (answer_of o ≡ Err r) ↔ (o ≡ refused r)
 unfolding answer_of
 answer_refused (refused q) r = (λ e. cc, λ e. cc)
 answer_refused (gives n c) r = (λ e. let z : ◌≡◌ {A = ℕ} 0 1 = cc in absurd (omega arith), λ e. absurd (no_refusal n c r e))
 
-placed_as : (o : Outcome) (r : ℕ) → (placed_of o ≡ placed.Refused r) ↔ (o ≡ refused r)
+placed_as : (o : Outcome) (r : Refusal) → (placed_of o ≡ Err r) ↔ (o ≡ refused r)
 unfolding placed_of
 placed_as (refused q) r = (λ e. cc, λ e. cc)
 placed_as (gives n c) r = (λ e. let z : ◌≡◌ {A = ℕ} 0 1 = cc in absurd (omega arith), λ e. absurd (no_refusal n c r e))
 
 -- where enough is lent: scratch and places, or a scratch alone.
-pub found_refused : (s p : List ℕ) → Enough 64 s p → (o : Outcome) (r : ℕ)
-    → (answer_of (lent s p o) ≡ found.Refused r) ↔ (o ≡ refused r)
+pub found_refused : (s p : List ℕ) → Enough 64 s p → (o : Outcome) (r : Refusal)
+    → (answer_of (lent s p o) ≡ Err r) ↔ (o ≡ refused r)
 found_refused s p h o r = rw (lent_all s p o h) (answer_refused o r)
 
-pub placed_refused : (s : List ℕ) → scratch_size ≤ length s → (o : Outcome) (r : ℕ)
-    → (placed_of (lent_scratch s o) ≡ placed.Refused r) ↔ (o ≡ refused r)
+pub placed_refused : (s : List ℕ) → scratch_size ≤ length s → (o : Outcome) (r : Refusal)
+    → (placed_of (lent_scratch s o) ≡ Err r) ↔ (o ≡ refused r)
 placed_refused s h o r = rw (lent_scratch_lem s o h) (placed_as o r)
 
 -- A chain is answered only where enough is lent and the service's own outcome gives one.
 own_gives :
     (b : Bool) (o : Outcome)
-    → ((r : ℕ) → cond b (refused 1) o ≡ refused r → ⊥)
+    → ((r : Refusal) → cond b (refused LittleLent) o ≡ refused r → ⊥)
     → (n : ℕ) × (c : List Part) × (b ≡ false) × (o ≡ gives n c)
-own_gives true o given = absurd (given 1 refl)
+own_gives true o given = absurd (given LittleLent refl)
 own_gives false (refused r) given = absurd (given r refl)
 own_gives false (gives n c) given = (n, c, refl, refl)
 
+-- The parts of an answer are those of the same answer.
+pub same_found : {f g : Found} → ◌≡◌ {A = Result Found Refusal} (Ok f) (Ok g) → (f.n ≡ g.n) × (f.position ≡ g.position) × (f.k ≡ g.k)
+same_found {f} {g} e =
+    let same : f ≡ g = cc in
+    (ap (λ (h : Found). h.n) same, ap (λ (h : Found). h.position) same, ap (λ (h : Found). h.k) same)
+
+pub same_placed : {f g : Placed} → ◌≡◌ {A = Result Placed Refusal} (Ok f) (Ok g) → (f.n ≡ g.n) × (f.position ≡ g.position)
+same_placed {f} {g} e =
+    let same : f ≡ g = cc in
+    (ap (λ (h : Placed). h.n) same, ap (λ (h : Placed). h.position) same)
+
 found_gives :
     {P : Type 0} (scratch places : List ℕ) (o : Outcome) (n i k : ℕ)
-    → answer_of (lent scratch places o) ≡ found.Chain n i k
+    → answer_of (lent scratch places o) ≡ Ok (record { n = n; position = i; k = k })
     → ((c : List Part) → o ≡ gives n c → too_little 64 scratch places ≡ false → position n c ≡ i → length c ≡ k → P)
     → P
 unfolding lent_of answer_of
 found_gives scratch places o n i k e then =
     let (m, c, enough, given) =
     own_gives (too_little 64 scratch places) o (λ r f. let z : ◌≡◌ {A = ℕ} 0 1 = cc (rw f at e) in omega arith) in
-    let g = rw (enough, given) at e in
-    let number : m ≡ n = cc g in
-    then c (given ∙ ap (λ (x : ℕ). gives x c) number) enough (cc g) (cc g)
+    let g = same_found {f = record { n = m; position = position m c; k = length c }} (rw (enough, given) at e) in
+    then c (given ∙ ap (λ (x : ℕ). gives x c) g.0) enough (ap (λ (x : ℕ). position x c) (sym g.0) ∙ g.1) g.2
 
 placed_gives :
     {P : Type 0} (scratch : List ℕ) (o : Outcome) (n i : ℕ)
-    → placed_of (lent_scratch scratch o) ≡ placed.At n i
+    → placed_of (lent_scratch scratch o) ≡ Ok (record { n = n; position = i })
     → ((c : List Part) → o ≡ gives n c → position n c ≡ i → P)
     → P
 unfolding lent_scratch placed_of
 placed_gives scratch o n i e then =
     let (m, c, enough, given) =
     own_gives (little_scratch scratch) o (λ r f. let z : ◌≡◌ {A = ℕ} 0 1 = cc (rw f at e) in omega arith) in
-    let g = rw (enough, given) at e in
-    let number : m ≡ n = cc g in
-    then c (given ∙ ap (λ (x : ℕ). gives x c) number) (cc g)
+    let g = same_placed {f = record { n = m; position = position m c }} (rw (enough, given) at e) in
+    then c (given ∙ ap (λ (x : ℕ). gives x c) g.0) (ap (λ (x : ℕ). position x c) (sym g.0) ∙ g.1)
 
 -- A chain is the outcome only where enough is lent, and then it is the service's own.
 pub lent_gives : (scratch places : List ℕ) (o : Outcome) (n : ℕ) (c : List Part) → lent scratch places o ≡ gives n c
@@ -108,9 +116,9 @@ lent_gives scratch places o n c e =
 -- ---- reading a record and placing it
 
 -- n, and what placing tells.
-unfoldable pub with_number : ℕ → Position → Placed
-with_number n (told.At i) = placed.At n i
-with_number n (told.Refused r) = placed.Refused r
+unfoldable pub with_number : ℕ → Result ℕ Refusal → Result Placed Refusal
+with_number n (Ok i) = Ok (record { n = n; position = i })
+with_number n (Err r) = Err r
 
 -- Reading a record tells the sum of its parts and what placing tells, for every record and scratch.
 pub read_is_place : (l s : List ℕ)
@@ -125,7 +133,7 @@ read_is_place l s = go (lent_scratch s (of_record l)) refl
         rw (record_sum l n c (rw enough at e))
 
 -- So both refuse alike.
-pub refused_alike : (o : Outcome) (r : ℕ) → (position_of o ≡ told.Refused r) ↔ (placed_of o ≡ placed.Refused r)
+pub refused_alike : (o : Outcome) (r : Refusal) → (position_of o ≡ Err r) ↔ (placed_of o ≡ Err r)
 unfolding placed_of position_of
 refused_alike (refused q) r = (λ e. cc, λ e. cc)
 refused_alike (gives n c) r = (
@@ -151,7 +159,7 @@ left_record :
     → n < 2 ^ 64
     → (s : List ℕ)
     → scratch_size ≤ length s
-    → placed_of (lent_scratch s (of_record l)) ≡ placed.At n i
+    → placed_of (lent_scratch s (of_record l)) ≡ Ok (record { n = n; position = i })
 unfolding placed_of
 left_record o n i k c places l e there size first chain f s h =
     rw (
@@ -178,14 +186,14 @@ letters_left_lem n c chain f room h = rw (chain_written n c chain f room h).1 (f
 
 -- What the services answer and leave behind for a chain c of n, asked by its record, its position and its word.
 pub record Trips (n : ℕ) (c : List Part) (scratch places room : List ℕ) : Type 0 where
-  pub read_record : placed_of (lent_scratch scratch (of_record (map part_number c))) ≡ placed.At n (position n c)
-  pub place_record : position_of (lent_scratch scratch (of_record (map part_number c))) ≡ told.At (position n c)
+  pub read_record : placed_of (lent_scratch scratch (of_record (map part_number c))) ≡ Ok (record { n = n; position = position n c })
+  pub place_record : position_of (lent_scratch scratch (of_record (map part_number c))) ≡ Ok (position n c)
   pub chain_at : lent scratch places (at_position n (position n c)) ≡ gives n c
   pub read_word : lent scratch places (of_word (word_of c)) ≡ gives n c
   pub next_chain : position n c + 1 < count n
       → lent scratch places (next_of (of_word (word_of c))) ≡ lent scratch places (at_position n (position n c + 1))
-  pub next_last : position n c + 1 ≡ count n → lent scratch places (next_of (of_word (word_of c))) ≡ refused 11
-  pub write_word : written_of (map part_number c) (length room) ≡ written.Letters (length (word_of c))
+  pub next_last : position n c + 1 ≡ count n → lent scratch places (next_of (of_word (word_of c))) ≡ refused LastOfList
+  pub write_word : written_of (map part_number c) (length room) ≡ Ok (length (word_of c))
   pub word_left : letters_left (map part_number c) room (written_of (map part_number c) (length room)) ≡ filled 64 (word_of c) room
 
 pub chain_trips :
@@ -214,10 +222,10 @@ chain_trips n c scratch places room h f e r =
 -- What reading a record tells, asked for at that position, gives that record.
 pub record_then_position :
     (l s : List ℕ) (n i : ℕ)
-    → placed_of (lent_scratch s (of_record l)) ≡ placed.At n i
+    → placed_of (lent_scratch s (of_record l)) ≡ Ok (record { n = n; position = i })
     → (scratch places : List ℕ)
     → Enough 64 scratch places
-    → (answer_of (lent scratch places (at_position n i)) ≡ found.Chain n i (length l))
+    → (answer_of (lent scratch places (at_position n i)) ≡ Ok (record { n = n; position = i; k = length l }))
     × (places_left (lent scratch places (at_position n i)) places ≡ filled 64 l places)
 unfolding answer_of places_left
 record_then_position l s n i e scratch places h =
@@ -231,11 +239,11 @@ record_then_position l s n i e scratch places h =
 pub position_then_record :
     (n i m j k : ℕ) (scratch places l : List ℕ)
     → n < 2 ^ 64
-    → answer_of (lent scratch places (at_position n i)) ≡ found.Chain m j k
+    → answer_of (lent scratch places (at_position n i)) ≡ Ok (record { n = m; position = j; k = k })
     → take k (places_left (lent scratch places (at_position n i)) places) ≡ l
     → (s : List ℕ)
     → scratch_size ≤ length s
-    → (m ≡ n) × (j ≡ i) × (placed_of (lent_scratch s (of_record l)) ≡ placed.At n i)
+    → (m ≡ n) × (j ≡ i) × (placed_of (lent_scratch s (of_record l)) ≡ Ok (record { n = n; position = i }))
 position_then_record n i m j k scratch places l f e first s h =
     found_gives scratch places (at_position n i) m j k e λ c given own there size.
     let (number, chain, at) = at_gives n i m c given in
@@ -249,19 +257,19 @@ position_then_record n i m j k scratch places l f e first s h =
 pub position_refused :
     (n i : ℕ) (scratch places : List ℕ)
     → Enough 64 scratch places
-    → (answer_of (lent scratch places (at_position n i)) ≡ found.Refused 6) ↔ (count n ≤ i)
-position_refused n i scratch places h = Iff.trans (found_refused scratch places h (at_position n i) 6) (at_refused n i)
+    → (answer_of (lent scratch places (at_position n i)) ≡ Err NoSuchPosition) ↔ (count n ≤ i)
+position_refused n i scratch places h = Iff.trans (found_refused scratch places h (at_position n i) NoSuchPosition) (at_refused n i)
 
 -- ---- words and records
 
 -- What reading a word leaves in the places, written as a word, is that word.
 pub word_then_word :
     (w : Word) (n i k : ℕ) (scratch places l : List ℕ)
-    → answer_of (lent scratch places (of_word w)) ≡ found.Chain n i k
+    → answer_of (lent scratch places (of_word w)) ≡ Ok (record { n = n; position = i; k = k })
     → take k (places_left (lent scratch places (of_word w)) places) ≡ l
     → (room : List ℕ)
     → 64 ≤ length room
-    → (written_of l (length room) ≡ written.Letters (length w))
+    → (written_of l (length room) ≡ Ok (length w))
     × (letters_left l room (written_of l (length room)) ≡ filled 64 w room)
 word_then_word w n i k scratch places l e first room h =
     found_gives scratch places (of_word w) n i k e λ c given own there size.
@@ -273,11 +281,11 @@ word_then_word w n i k scratch places l e first room h =
 -- Read as a record, it tells the word's number and position.
 pub word_then_record :
     (w : Word) (n i k : ℕ) (scratch places l : List ℕ)
-    → answer_of (lent scratch places (of_word w)) ≡ found.Chain n i k
+    → answer_of (lent scratch places (of_word w)) ≡ Ok (record { n = n; position = i; k = k })
     → take k (places_left (lent scratch places (of_word w)) places) ≡ l
     → (s : List ℕ)
     → scratch_size ≤ length s
-    → placed_of (lent_scratch s (of_record l)) ≡ placed.At n i
+    → placed_of (lent_scratch s (of_record l)) ≡ Ok (record { n = n; position = i })
 word_then_record w n i k scratch places l e first s h =
     found_gives scratch places (of_word w) n i k e λ c given own there size.
     let (chain, word, f) = of_gives w n c given in
@@ -287,13 +295,13 @@ word_then_record w n i k scratch places l e first s h =
 -- The word written of a record, read, gives that record.
 pub record_then_word :
     (l s : List ℕ) (n i k : ℕ) (room : List ℕ) (w : Word)
-    → placed_of (lent_scratch s (of_record l)) ≡ placed.At n i
+    → placed_of (lent_scratch s (of_record l)) ≡ Ok (record { n = n; position = i })
     → 64 ≤ length room
-    → written_of l (length room) ≡ written.Letters k
+    → written_of l (length room) ≡ Ok k
     → take k (letters_left l room (written_of l (length room))) ≡ w
     → (scratch places : List ℕ)
     → Enough 64 scratch places
-    → (answer_of (lent scratch places (of_word w)) ≡ found.Chain n i (length l))
+    → (answer_of (lent scratch places (of_word w)) ≡ Ok (record { n = n; position = i; k = length l }))
     × (places_left (lent scratch places (of_word w)) places ≡ filled 64 l places)
 unfolding answer_of places_left
 record_then_word l s n i k room w e h told first scratch places g =
@@ -317,8 +325,8 @@ record_then_word l s n i k room w e h told first scratch places g =
 -- What comes next of a word is what stands one position after what reading the word tells.
 pub word_then_next :
     (w : Word) (n j k : ℕ) (scratch places : List ℕ)
-    → answer_of (lent scratch places (next_of (of_word w))) ≡ found.Chain n j k
-    → (i k' : ℕ) × (answer_of (lent scratch places (of_word w)) ≡ found.Chain n i k') × (j ≡ i + 1)
+    → answer_of (lent scratch places (next_of (of_word w))) ≡ Ok (record { n = n; position = j; k = k })
+    → (i k' : ℕ) × (answer_of (lent scratch places (of_word w)) ≡ Ok (record { n = n; position = i; k = k' })) × (j ≡ i + 1)
     × (lent scratch places (next_of (of_word w)) ≡ lent scratch places (at_position n j))
 unfolding answer_of
 word_then_next w n j k scratch places e =
@@ -334,11 +342,11 @@ word_then_next w n j k scratch places e =
 -- It is refused with 11 exactly where that is the last position.
 pub next_refused :
     (w : Word) (n i k : ℕ) (scratch places : List ℕ)
-    → answer_of (lent scratch places (of_word w)) ≡ found.Chain n i k
-    → (answer_of (lent scratch places (next_of (of_word w))) ≡ found.Refused 11) ↔ (i + 1 ≡ count n)
+    → answer_of (lent scratch places (of_word w)) ≡ Ok (record { n = n; position = i; k = k })
+    → (answer_of (lent scratch places (next_of (of_word w))) ≡ Err LastOfList) ↔ (i + 1 ≡ count n)
 unfolding next_of
 next_refused w n i k scratch places e =
     found_gives scratch places (of_word w) n i k e λ c given own there size.
     let (chain, word, f) = of_gives w n c given in
     rw (lent_enough scratch places (next_of (of_word w)) own, given, ← there)
-    (Iff.trans (answer_refused (after n c) 11) (Iff.trans (after_refused n c chain 11) (λ g. g.1, λ l. (refl, l))))
+    (Iff.trans (answer_refused (after n c) LastOfList) (Iff.trans (after_refused n c chain LastOfList) (λ g. g.1, λ l. (refl, l))))

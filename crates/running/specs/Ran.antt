@@ -1,22 +1,21 @@
 -- What running a record's chain answers, at all inputs: document 02, T-02, and document 01's refusals 8, 9, 10.
 -- Definitions only; which refusal comes when, and that the residue is n × x modulo m, is in RanLaws.
+use Rattle.std.specs.Prelude.{Result, Ok, Err}
 use Rattle.std.specs.Prelude.{ℕ, ◌^◌, Bool, cond, ◌||◌, List, ◌==◌, nat_le, nat_lt}
+use Rattle.refusals.specs.declared.Refusal.{Refusal}
+use Rattle.refusals.specs.declared.Refusal.TheVariants.{BadModulus, BadResidue}
 use Rattle.words.specs.Records.{record_parts, judged_of}
-use Rattle.words.specs.declared.Judged.{Judged}
-use Rattle.words.specs.declared.Judged.TheVariants as judged
 use Rattle.running.specs.Run.{chain_run}
-use Rattle.running.specs.declared.Ran.{Ran}
-use Rattle.running.specs.declared.Ran.TheVariants.{Residue, Refused}
 
 -- A modulus of 0 or above 2^63.
 unfoldable pub bad_modulus : ℕ → Bool
 bad_modulus m = m == 0 || nat_lt (2 ^ 63) m
 
 -- The run of a record's chain, or the record's own refusal.
-unfoldable pub run_judged : List ℕ → ℕ → ℕ → Judged → Ran
-run_judged l m x (judged.Sum n) = Residue (chain_run m x (record_parts l))
-run_judged l m x (judged.Refused r) = Refused r
+unfoldable pub run_judged : List ℕ → ℕ → ℕ → Result ℕ Refusal → Result ℕ Refusal
+run_judged l m x (Ok n) = Ok (chain_run m x (record_parts l))
+run_judged l m x (Err r) = Err r
 
 -- The answer: 13 for the modulus, then 14 for an x that is not below it, then what the record gets.
-unfoldable pub ran_of : List ℕ → ℕ → ℕ → Ran
-ran_of l m x = cond (bad_modulus m) (Refused 13) (cond (nat_le m x) (Refused 14) (run_judged l m x (judged_of l)))
+unfoldable pub ran_of : List ℕ → ℕ → ℕ → Result ℕ Refusal
+ran_of l m x = cond (bad_modulus m) (Err BadModulus) (cond (nat_le m x) (Err BadResidue) (run_judged l m x (judged_of l)))

@@ -7,36 +7,44 @@ ghost use Rattle.std.specs.Prelude.{◌≡◌, ◌+◌, ◌*◌, ◌%◌, ◌^�
 ghost use Rattle.words.specs.Packed.{unpacked};
 ghost use Rattle.running.specs.Run.{run};
 
-// r + s modulo m, for two residues. `less` is m less than their sum, modulo 2^64: its highest bit is 1 exactly if the sum is below
-// m. A test would become a jump that cannot be predicted.
-fn sum_modulo(r: u64, s: u64, m: u64) -> u64
-    requires { (r < m) × (s < m) × (m ≤ 2 ^ 63) }
-    ensures { (result ≡ (r + s) % m) × (result < m) }
-{
-    let less = std::num::wrapping_sub_u64(r + s, m);
-    std::num::wrapping_add_u64(less, (less >> 63) * m)
+// A modulus m and a residue x, on which a chain is run.
+#[derive(Clone, Copy)]
+pub struct Run {
+    pub m: u64,
+    pub x: u64,
+    pub ghost small: { (x < m) × (m ≤ 2 ^ 63) },
 }
 
-// What a letter makes of the residue r: `up` is 1 for the letters 2 and 3, `part` is 1 for 1 and 3.
-fn with_letter(up: u64, part: u64, r: u64, m: u64, x: u64) -> u64
-    requires { (up ≤ 1) × (part ≤ 1) × (r < m) × (x < m) × (m ≤ 2 ^ 63) }
-    ensures { (result ≡ ((2 + up) * r + part * x) % m) × (result < m) }
-{
-    let double = sum_modulo(r, r, m);
-    let more = sum_modulo(up * r, part * x, m);
-    sum_modulo(double, more, m)
-}
-
-// The run along a word of so many letters.
-pub fn run_word(rises: u64, marks: u64, letters: u64, m: u64, x: u64) -> u64
-    requires { (letters ≤ 64) × (x < m) × (m ≤ 2 ^ 63) }
-    ensures { result ≡ run m x (unpacked letters rises marks) }
-{
-    let mut r: u64 = 0;
-    let mut i = letters;
-    while 0 < i {
-        i -= 1;
-        r = with_letter((rises >> i) % 2, (marks >> i) % 2, r, m, x);
+impl Run {
+    // r + s modulo m, for two residues. `less` is m less than their sum, modulo 2^64: its highest bit is 1 exactly if the sum is below
+    // m. A test would become a jump that cannot be predicted.
+    fn sum(self, r: u64, s: u64) -> u64
+        requires { (r < self.m) × (s < self.m) }
+        ensures { (result ≡ (r + s) % self.m) × (result < self.m) }
+    {
+        let less = (r + s).wrapping_sub(self.m);
+        less.wrapping_add((less >> 63) * self.m)
     }
-    r
+
+    // What a letter makes of the residue r: `up` is 1 for the letters 2 and 3, `part` is 1 for 1 and 3.
+    fn with_letter(self, up: u64, part: u64, r: u64) -> u64
+        requires { (up ≤ 1) × (part ≤ 1) × (r < self.m) }
+        ensures { (result ≡ ((2 + up) * r + part * self.x) % self.m) × (result < self.m) }
+    {
+        let double = self.sum(r, r);
+        let more = self.sum(up * r, part * self.x);
+        self.sum(double, more)
+    }
+
+    // The run along a word of so many letters.
+    pub fn along(self, rises: u64, marks: u64, letters: u64) -> u64
+        requires { letters ≤ 64 }
+        ensures { result ≡ run self.m self.x (unpacked letters rises marks) }
+    {
+        let mut r: u64 = 0;
+        for i in (0..letters).rev() {
+            r = self.with_letter((rises >> i) % 2, (marks >> i) % 2, r);
+        }
+        r
+    }
 }

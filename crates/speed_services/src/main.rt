@@ -4,65 +4,41 @@
 #![tactic(auto)]
 
 use best::{Best, Chosen, Limits, Prices};
-use counting::Counted;
 use ranking::Found;
+use std::io;
 use std::rt::Env;
-
-// The next number of the sequence (xorshift).
-fn next(x: u64) -> u64 {
-    let y = x ^ (x << 13);
-    let z = y ^ (y >> 7);
-    z ^ (z << 17)
-}
+use test_kit::{Random, first};
 
 // The decimal number that the word at the index `at` is; 0 where there is none.
 fn word_at(rt: &impl Env, at: usize) -> u64 {
-    let mut text = io::buffer();
+    let mut text = [0; 4096];
     let length = rt.arg(at, &mut text).unwrap_or(0);
-    let mut n: u64 = 0;
-    let mut i = 0;
-    while i < text.len() {
-        if i == length {
-            return n;
-        }
-        n = n % 100000000000 * 10 + (text[i] % 16) as u64 % 10;
-        i += 1;
-    }
-    n
-}
-
-fn wide(x: u16) -> u64 {
-    x as u64
+    text.iter().take(length).fold(0, |n, c| {
+        n % 100000000000 * 10 + u64::from(*c % 16 % 10)
+    })
 }
 
 // What a chain adds to the sum: every part number counts by its index. There are at most k of them among the places.
-fn digest(position: u64, price: u64, k: u64, places: &[u16; 64]) -> u64 {
-    let mut sum = position ^ (price << 32) ^ k;
-    let mut i: u64 = 0;
-    while i < 64 {
-        if i == k {
-            return sum;
-        }
-        sum = std::num::wrapping_add_u64(sum, wide(places[i as usize]) << (i % 32));
-        i += 1;
-    }
-    sum
+fn digest(position: u64, price: u64, k: u64, places: &[u16]) -> u64 {
+    first(places, k)
+        .iter()
+        .enumerate()
+        .fold(position ^ (price << 32) ^ k, |sum, (i, x)| {
+            sum.wrapping_add(u64::from(*x) << (i % 32))
+        })
 }
+
+// ---- one call of each service
 
 fn counted(n: u64, scratch: &mut [u64]) -> u64 {
-    match counting::table_count(n, scratch) {
-        Counted::Count(w) => w,
-        Counted::Refused(_) => 0,
-    }
+    counting::table_count(n, scratch).unwrap_or(0)
 }
 
-fn no_limits() -> Limits {
-    Limits {
-        parts: 64,
-        doublings: 63,
-        triplings: 40,
-    }
-}
+const NO_LIMITS: Limits = Limits {
+    parts: 64,
+    doublings: 63,
+    triplings: 40,
+};
 
 // Four prices from one number.
 fn prices_in(x: u64) -> Prices {
@@ -74,134 +50,98 @@ fn prices_in(x: u64) -> Prices {
     }
 }
 
-fn best_of(n: u64, x: u64, scratch: &mut [u64]) -> u64 {
-    let mut places = [0u16; 64];
-    match best::best_chain(n, no_limits(), prices_in(x), scratch, &mut places) {
-        Best::Chain { position, k, price } => digest(position, price, k, &places),
-        Best::Refused(_) => 0,
+fn best_of(n: u64, prices: Prices, scratch: &mut [u64]) -> u64 {
+    let mut places = [0; 64];
+    match best::best_chain(n, NO_LIMITS, prices, scratch, &mut places) {
+        Ok(Best { position, k, price }) => digest(position, price, k, &places),
+        Err(_) => 0,
     }
 }
 
-fn chosen(n: u64, x: u64, scratch: &mut [u64]) -> u64 {
-    let mut places = [0u16; 64];
-    match best::choose_chain(n, no_limits(), prices_in(x), scratch, &mut places) {
-        Chosen::Chain { k, price } => digest(0, price, k, &places),
-        Chosen::Refused(_) => 0,
-    }
-}
-
-fn best_or_chosen(service: u64, n: u64, x: u64, scratch: &mut [u64]) -> u64 {
-    if service == 4 {
-        return chosen(n, x, scratch);
-    }
-    best_of(n, x, scratch)
-}
-
-// Numbers and a position below the count of each.
-#[derive(Drop)]
-struct Block {
-    numbers: [u64; 500],
-    positions: [u64; 500],
-    next: u64,
-}
-
-// A position below the count.
-fn below(x: u64, count: u64) -> u64 {
-    if count == 0 {
-        return 0;
-    }
-    x % count
-}
-
-fn some_block(x: u64, scratch: &mut [u64]) -> Block {
-    let mut numbers = [0u64; 500];
-    let mut positions = [0u64; 500];
-    let mut last = x;
-    let mut i = 0;
-    while i < 500 {
-        let n = next(last);
-        last = next(n);
-        numbers[i] = n;
-        positions[i] = below(last, counted(n, scratch));
-        i += 1;
-    }
-    Block {
-        numbers,
-        positions,
-        next: last,
+fn chosen(n: u64, prices: Prices, scratch: &mut [u64]) -> u64 {
+    let mut places = [0; 64];
+    match best::choose_chain(n, NO_LIMITS, prices, scratch, &mut places) {
+        Ok(Chosen { k, price }) => digest(0, price, k, &places),
+        Err(_) => 0,
     }
 }
 
 fn placed(n: u64, position: u64, scratch: &mut [u64]) -> u64 {
-    let mut places = [0u16; 64];
+    let mut places = [0; 64];
     match ranking::chain_at(n, position, scratch, &mut places) {
-        Found::Chain { n: _, position, k } => digest(position, 0, k, &places),
-        Found::Refused(_) => 0,
+        Ok(Found { n: _, position, k }) => digest(position, 0, k, &places),
+        Err(_) => 0,
     }
 }
 
-fn sum_of_block(block: Block, scratch: &mut [u64]) -> u64 {
-    let numbers = block.numbers;
-    let positions = block.positions;
-    let mut sum: u64 = 0;
-    let mut i = 0;
-    while i < 500 {
-        sum = std::num::wrapping_add_u64(sum, placed(numbers[i], positions[i], scratch));
-        i += 1;
-    }
-    sum
-}
+// ---- many calls
 
 fn sum_of_counts(times: u64, scratch: &mut [u64]) -> u64 {
-    let mut x: u64 = 88172645463325252;
     let mut sum: u64 = 0;
-    let mut i = 0;
-    while i < times {
-        x = next(x);
-        sum = std::num::wrapping_add_u64(sum, counted(x, scratch));
-        i += 1;
+    for n in Random::new().take(times as usize) {
+        sum = sum.wrapping_add(counted(n, scratch));
     }
     sum
 }
 
-// Best chains, or chosen ones where the service is 4.
-fn sum_of_best(service: u64, times: u64, scratch: &mut [u64]) -> u64 {
-    let mut x: u64 = 88172645463325252;
+// The answers to `times` numbers, each with prices of its own, by a service that chooses.
+fn sum_of_choices<F: Fn(u64, Prices, &mut [u64]) -> u64>(
+    times: u64,
+    scratch: &mut [u64],
+    service: F,
+) -> u64
+    requires { F.IsAlwaysCallable service }
+{
+    let mut random = Random::new();
     let mut sum: u64 = 0;
-    let mut i = 0;
-    while i < times {
-        let n = next(x);
-        x = next(n);
-        sum = std::num::wrapping_add_u64(sum, best_or_chosen(service, n, x, scratch));
-        i += 1;
+    for _ in 0..times {
+        let n = random.draw();
+        let prices = prices_in(random.draw());
+        sum = sum.wrapping_add(service(n, prices, scratch));
+    }
+    sum
+}
+
+// Numbers, each with a position below its count.
+fn some_block(random: &mut Random, scratch: &mut [u64]) -> [(u64, u64); 500] {
+    let mut block = [(0, 0); 500];
+    for pair in &mut block {
+        let n = random.draw();
+        let count = counted(n, scratch);
+        *pair = (n, random.draw().checked_rem(count).unwrap_or(0));
+    }
+    block
+}
+
+fn sum_of_block(block: [(u64, u64); 500], scratch: &mut [u64]) -> u64 {
+    let mut sum: u64 = 0;
+    for (n, position) in block {
+        sum = sum.wrapping_add(placed(n, position, scratch));
     }
     sum
 }
 
 // Whole blocks: first the positions of a block, then its chains, so that no number is asked twice in a row.
 fn sum_of_placed(times: u64, scratch: &mut [u64]) -> u64 {
-    let mut x: u64 = 88172645463325252;
+    let mut random = Random::new();
     let mut sum: u64 = 0;
-    let mut i = 0;
-    while i < times / 500 {
-        let block = some_block(x, scratch);
-        x = block.next;
-        sum = std::num::wrapping_add_u64(sum, sum_of_block(block, scratch));
-        i += 1;
+    for _ in 0..times / 500 {
+        let block = some_block(&mut random, scratch);
+        sum = sum.wrapping_add(sum_of_block(block, scratch));
     }
     sum
 }
 
-fn main(rt: HostRuntime) {
+fn main(rt: HostRuntime) -> io::Result<()> {
     let service = word_at(&rt, 1);
     let times = word_at(&rt, 2);
-    let mut scratch = [0u64; lent::SCRATCH];
+    let mut scratch = [0; lent::SCRATCH];
     let sum = match service {
         1 => sum_of_counts(times, &mut scratch),
-        2 | 4 => sum_of_best(service, times, &mut scratch),
+        2 => sum_of_choices(times, &mut scratch, best_of),
         3 => sum_of_placed(times, &mut scratch),
-        _ => return,
+        4 => sum_of_choices(times, &mut scratch, chosen),
+        _ => return Ok(()),
     };
-    io::print_decimal(1, sum);
-    io::write_all(1, b"\n");
+    println!(rt; "{sum}")
 }

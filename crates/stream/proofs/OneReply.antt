@@ -16,6 +16,7 @@ use Rattle.lent.specs.LentLaws.{length_filled, filled_first, enough, enough_zero
 use Rattle.lent.specs.Lent.{filled, too_little, scratch_left, scratch_size, Enough}
 use Rattle.lent.specs.Parts.{part_lent, part_back}
 use Rattle.digits.proofs.DigitLaws.{length_digits}
+use Rattle.refusals.specs.Refusals.{number_of}
 use Rattle.frames.specs.Replies.{Reply, refused_as, served_with, digits_in, reply_to, reply_of, replied_of, answer_to, out_left}
 use Rattle.frames.specs.ReplyLaws.{reply_short}
 use Rattle.stream.specs.Answers.{behind_one}
@@ -25,7 +26,7 @@ use Rattle.stream.specs.Pieces.{digits_told, Adds}
 
 told_length : (x : Reply) → digits_told (replied_of x) ≡ length (digits_in x)
 unfolding digits_told replied_of digits_in
-told_length (refused_as r) = sym (length_digits 2 r)
+told_length (refused_as r) = sym (length_digits 2 (number_of r))
 told_length (served_with ds) = refl
 
 module _ (line scratch part : List ℕ) (h : scratch_size ≤ length scratch) (k : 514 ≤ length part) where

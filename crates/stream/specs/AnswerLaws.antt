@@ -1,7 +1,7 @@
 -- The laws of one call; the definitions are in Answers.
 --
 -- In this order: whether too little is lent; what is written; a call that is served; such a call moves on.
-use Rattle.std.specs.Prelude.{◌≡◌, Bool, true, false, ◌||◌, List, ℕ, zero, suc, ◌≤◌, ◌<◌, length, take}
+use Rattle.std.specs.Prelude.{◌≡◌, Ok, Bool, true, false, ◌||◌, List, ℕ, zero, suc, ◌≤◌, ◌<◌, length, take}
 use Rattle.std.proofs.Common.{sym, ap, ◌∙◌, arith, length-append, length-take, take_at}
 use Rattle.std.proofs.Math.Bool.{or-true}
 use borrow.Author.Tests.{ltb-false, lt-ltb, le-ltb}
@@ -12,8 +12,7 @@ use Rattle.lines.specs.Stream.{finished, unfinished, last_line, replies_to}
 use Rattle.frames.specs.Replies.{reply_of}
 use Rattle.stream.specs.Answers.{little, Lending, behind, replies_left, Goes, fed_of, kept_left, Moves, ended_of}
 use Rattle.stream.specs.Pieces.{Wrote}
-use Rattle.stream.specs.declared.Fed.TheVariants as fed
-use Rattle.stream.specs.declared.Ended.TheVariants as ended
+use Rattle.stream.specs.declared.Progress.{Progress}
 
 -- ---- whether too little is lent
 
@@ -64,15 +63,19 @@ pub record Served (line block kept kept_exit out out_exit : List ℕ) (used left
   pub wrote : Wrote (finished line (take used block)) out out_exit n
 
 pub served : (b : Bool) (line block kept kept_exit out out_exit : List ℕ) (used left n : ℕ)
-    → fed.Taken used left n ≡ fed_of b line block used → kept_exit ≡ kept_left b (unfinished line (take used block)) kept
+    → Ok (record { used = used; kept = left; written = n }) ≡ fed_of b line block used → kept_exit ≡ kept_left b (unfinished line (take used block)) kept
     → out_exit ≡ replies_left b (finished line (take used block)) out
     → Served line block kept kept_exit out out_exit used left n
 unfolding fed_of kept_left replies_left
 served true line block kept kept_exit out out_exit used left n e k o =
-    let z : ◌≡◌ {A = ℕ} 0 1 = cc in
-    absurd (omega arith)
+    cc
 served false line block kept kept_exit out out_exit used left n e k o =
-    record { keeps = k; count = cc; wrote = record { replies = o; count = cc } }
+    let told : ◌≡◌ {A = Progress} (record { used = used; kept = left; written = n }) (record {
+      used = used;
+      kept = length (take 515 (unfinished line (take used block)));
+      written = length (replies_to reply_of (finished line (take used block)));
+    }) = cc in
+    record { keeps = k; count = ap (λ (p : Progress). p.kept) told; wrote = record { replies = o; count = ap (λ (p : Progress). p.written) told } }
 
 -- What is kept is the first 515 characters of the line that does not end.
 pub what_kept : (line block kept kept_exit out out_exit : List ℕ) (used left n : ℕ)
@@ -81,12 +84,11 @@ what_kept line block kept kept_exit out out_exit used left n s =
     rw (s.keeps, s.count) (filled_first 515 (take 515 (unfinished line (take used block))) kept)
 
 -- At the end of a file.
-pub end_served : (b : Bool) (line out out_exit : List ℕ) (n : ℕ) → ended.Written n ≡ ended_of b line
+pub end_served : (b : Bool) (line out out_exit : List ℕ) (n : ℕ) → Ok n ≡ ended_of b line
     → out_exit ≡ replies_left b (last_line line) out → Wrote (last_line line) out out_exit n
 unfolding ended_of replies_left
 end_served true line out out_exit n e o =
-    let z : ◌≡◌ {A = ℕ} 0 1 = cc in
-    absurd (omega arith)
+    cc
 end_served false line out out_exit n e o = record { replies = o; count = cc }
 
 -- ---- such a call moves on

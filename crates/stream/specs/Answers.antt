@@ -3,14 +3,13 @@
 --
 -- In this order: whether too little is lent; the replies in `out`; a block; the end of a file.
 -- Definitions only. The laws of one call are in AnswerLaws; what all calls write together is in Sessions.
-use Rattle.std.specs.Prelude.{Bool, true, false, cond, ◌||◌, List, [], ◌∷◌, ◌++◌, ℕ, ◌+◌, ◌≤◌, ◌<◌, ltb, length, take, drop}
+use Rattle.std.specs.Prelude.{Result, Ok, Err, Bool, true, false, cond, ◌||◌, List, [], ◌∷◌, ◌++◌, ℕ, ◌+◌, ◌≤◌, ◌<◌, ltb, length, take, drop}
 use Rattle.lent.specs.Lent.{filled, too_little, Enough}
 use Rattle.lines.specs.Stream.{finished, unfinished, last_line, replies_to}
 use Rattle.frames.specs.Replies.{reply_of}
-use Rattle.stream.specs.declared.Fed.{Fed}
-use Rattle.stream.specs.declared.Fed.TheVariants as fed
-use Rattle.stream.specs.declared.Ended.{Ended}
-use Rattle.stream.specs.declared.Ended.TheVariants as ended
+use Rattle.refusals.specs.declared.Refusal.{Refusal}
+use Rattle.refusals.specs.declared.Refusal.TheVariants.{LittleLent}
+use Rattle.stream.specs.declared.Progress.{Progress}
 
 -- ---- what must be lent
 
@@ -51,17 +50,20 @@ pub record Goes (line block out : List ℕ) (used : ℕ) : Type 0 where
   pub stops : used < length block → length out < length (replies_to reply_of (finished line (take used block))) + 515
 
 -- How much of the block is used, by the answer: nothing where the call is refused.
-unfoldable pub used_of : Fed → ℕ
-used_of (fed.Taken used left written) = used
-used_of (fed.Refused r) = 0
+unfoldable pub used_of : Result Progress Refusal → ℕ
+used_of (Ok gone) = gone.used
+used_of (Err r) = 0
 
 -- The answer: `used`, how many characters are kept of the line that does not end, and how many bytes of replies are written; or
 -- refusal 1.
-unfoldable pub fed_of : Bool → List ℕ → List ℕ → ℕ → Fed
-fed_of true line block used = fed.Refused 1
+unfoldable pub fed_of : Bool → List ℕ → List ℕ → ℕ → Result Progress Refusal
+fed_of true line block used = Err LittleLent
 fed_of false line block used =
-    fed.Taken used (length (take 515 (unfinished line (take used block))))
-    (length (replies_to reply_of (finished line (take used block))))
+    Ok (record {
+      used = used;
+      kept = length (take 515 (unfinished line (take used block)));
+      written = length (replies_to reply_of (finished line (take used block)));
+    })
 
 -- `kept` at exit: untouched where too little is lent, else the first 515 characters of the line that does not end, then zeros up to
 -- 515, and later places untouched.
@@ -78,6 +80,6 @@ pub record Moves (block out_exit : List ℕ) (used left n : ℕ) : Type 0 where
 -- ---- the end of a file
 
 -- The answer: `line` was read before the end and is the last line, unless it is empty. How many bytes are written; or refusal 1.
-unfoldable pub ended_of : Bool → List ℕ → Ended
-ended_of true line = ended.Refused 1
-ended_of false line = ended.Written (length (replies_to reply_of (last_line line)))
+unfoldable pub ended_of : Bool → List ℕ → Result ℕ Refusal
+ended_of true line = Err LittleLent
+ended_of false line = Ok (length (replies_to reply_of (last_line line)))

@@ -1,11 +1,10 @@
 -- What the private steps of an answer do: finding the end of a line, keeping a line's first characters, adding one reply, and the
 -- replies written so far. Definitions only.
-use Rattle.std.specs.Prelude.{◌≡◌, true, List, ◌∷◌, ◌++◌, ℕ, ◌+◌, ◌-◌, ◌≤◌, ◌<◌, length, take, drop, get_or}
+use Rattle.std.specs.Prelude.{◌≡◌, Option, Some, None, Result, Ok, Err, true, List, ◌∷◌, ◌++◌, ℕ, ◌+◌, ◌-◌, ◌≤◌, ◌<◌, length, take, drop, get_or}
 use Rattle.lent.specs.Lent.{OnlyFirst}
 use Rattle.lines.specs.Stream.{unbroken, replies_to}
 use Rattle.frames.specs.Replies.{reply_of}
-use Rattle.frames.specs.declared.Replied.{Replied}
-use Rattle.frames.specs.declared.Replied.TheVariants as replied
+use Rattle.refusals.specs.declared.Refusal.{Refusal}
 use Rattle.stream.specs.Answers.{behind_one, behind}
 
 -- The characters of a block from an index up to another.
@@ -18,6 +17,11 @@ pub record LineEnd (block : List ℕ) (from end : ℕ) : Type 0 where
   pub within : end ≤ length block
   pub unbroken_before : unbroken (piece from end block) ≡ true
   pub ended : end < length block → get_or block end 0 ≡ 10
+
+-- The same of an index that there is; where there is none, no byte 10 is left.
+abbrev pub NextEnd : List ℕ → ℕ → Option ℕ → Type 0
+NextEnd block from None = unbroken (drop from block) ≡ true
+NextEnd block from (Some end) = LineEnd block from end × (end < length block)
 
 -- The first n of `exit` are the first 515 characters of a line; from 515 on nothing changed.
 pub record Keeps (line entry exit : List ℕ) (n : ℕ) : Type 0 where
@@ -38,6 +42,6 @@ pub record Wrote (lines : List (List ℕ)) (entry exit : List ℕ) (n : ℕ) : T
   pub count : n ≡ length (replies_to reply_of lines)
 
 -- How many digits an answer tells: a refusal's number has two.
-unfoldable pub digits_told : Replied → ℕ
-digits_told (replied.Digits n) = n
-digits_told (replied.Refused r) = 2
+unfoldable pub digits_told : Result ℕ Refusal → ℕ
+digits_told (Ok n) = n
+digits_told (Err r) = 2

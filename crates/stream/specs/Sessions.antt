@@ -2,7 +2,7 @@
 -- write is one reply for each line of the file, in order.
 --
 -- In this order: the calls on a file; the theorem; what is written, line by line.
-use Rattle.std.specs.Prelude.{◌≡◌, refl, ℕ, zero, suc, ◌<◌, length, take, get_or}
+use Rattle.std.specs.Prelude.{◌≡◌, Ok, refl, ℕ, zero, suc, ◌<◌, length, take, get_or}
 use Rattle.std.proofs.Common.{ap, ◌∙◌, arith}
 use mathlib.Core.List.{List, [], ◌∷◌, ◌++◌, flatten, map}
 use Rattle.std.proofs.lemmas.List.{length-map}
@@ -12,8 +12,6 @@ use Rattle.frames.specs.Replies.{reply_of}
 use Rattle.frames.specs.ReplyLaws.{first_515, reply_unbroken}
 use Rattle.stream.specs.Answers.{little, replies_left, fed_of, kept_left, ended_of}
 use Rattle.stream.specs.AnswerLaws.{what_wrote, served, what_kept, end_served}
-use Rattle.stream.specs.declared.Fed.TheVariants as fed
-use Rattle.stream.specs.declared.Ended.TheVariants as ended
 
 -- ---- the calls on a file
 
@@ -21,12 +19,12 @@ use Rattle.stream.specs.declared.Ended.TheVariants as ended
 -- are those of its contract. A call on a block hands what it keeps to the next one; the last call is at the end of the file.
 pub data Session : List ℕ → List (List ℕ) → List ℕ → Type 0 where
   end_call : (kept : List ℕ) (k : ℕ) (scratch out out_exit : List ℕ) (n : ℕ)
-      → ended.Written n ≡ ended_of (little kept k scratch out) (take k kept)
+      → Ok n ≡ ended_of (little kept k scratch out) (take k kept)
       → out_exit ≡ replies_left (little kept k scratch out) (last_line (take k kept)) out
       → Session (take k kept) [] (take n out_exit)
   block_call : (block kept : List ℕ) (k : ℕ) (scratch out kept_exit out_exit : List ℕ) (used left n : ℕ)
       (pieces : List (List ℕ)) (written : List ℕ)
-      → fed.Taken used left n ≡ fed_of (little kept k scratch out) (take k kept) block used
+      → Ok (record { used = used; kept = left; written = n }) ≡ fed_of (little kept k scratch out) (take k kept) block used
       → kept_exit ≡ kept_left (little kept k scratch out) (unfinished (take k kept) (take used block)) kept
       → out_exit ≡ replies_left (little kept k scratch out) (finished (take k kept) (take used block)) out
       → Session (take left kept_exit) pieces written

@@ -3,32 +3,22 @@
 // case. Every public function here takes any input.
 #![tactic(auto)]
 
-ghost use Rattle.std.specs.Prelude.{◌≡◌, false, [], ◌++◌, ◌+◌, ◌≤◌, min, length, take};
+ghost use Rattle.std.specs.Prelude.{◌≡◌, false, [], ◌++◌, ◌+◌, ◌≤◌, length, take};
 ghost use Rattle.lent.specs.Lent.{filled, OnlyFirst, scratch_size, scratch_left};
 ghost use Rattle.lines.specs.Stream.{finished, unfinished, last_line};
 ghost use Rattle.frames.specs.Replies.{reply_of};
 ghost use Rattle.stream.specs.Answers.{little, Lending, Goes, used_of, fed_of, kept_left, replies_left, ended_of};
-ghost use Rattle.stream.specs.Pieces.{LineEnd, Keeps, Adds, Wrote, digits_told};
+ghost use Rattle.stream.specs.Pieces.{NextEnd, Keeps, Adds, Wrote, digits_told};
 
-use frames::Replied;
+use refusals::Refusal;
 
-// What a block gets: how much of it was used, how many characters are kept of the line that it leaves unfinished, and how many
-// bytes of replies were written; or the number of the refusal.
-#[derive(Drop)]
-pub enum Fed {
-    Taken {
-        used: usize,
-        kept: usize,
-        written: usize,
-    },
-    Refused(u8),
-}
-
-// What the end of a file gets: how many bytes of a reply were written, or the number of the refusal.
-#[derive(Drop)]
-pub enum Ended {
-    Written(usize),
-    Refused(u8),
+// How far a block is answered: how much of it was used, how many characters are kept of the line that it leaves unfinished, and how
+// many bytes of replies were written.
+#[derive(Clone, Copy)]
+pub struct Progress {
+    pub used: usize,
+    pub kept: usize,
+    pub written: usize,
 }
 
 // Whether too little is lent.
@@ -47,25 +37,13 @@ fn is_little(kept: &[u8], k: usize, scratch: &[u64], out: &[u8]) -> bool
     k > 515
 }
 
-// The index of the first byte 10 of the block from `from` on, and the block's length where there is none.
-fn line_end(block: &[u8], from: usize) -> usize
+// The index of the first byte 10 of the block from `from` on, if there is one.
+fn line_end(block: &[u8], from: usize) -> Option<usize>
     requires { from ≤ length block.now }
-    ensures { LineEnd block.now from result }
+    ensures { NextEnd block.now from result }
 {
-    let mut i = from;
-    while i < block.len() {
-        if block[i] == 10 {
-            return i;
-        }
-        i += 1;
-    }
-    i
-}
-
-fn least(a: usize, b: usize) -> usize
-    ensures { result ≡ min a b }
-{
-    if a < b { a } else { b }
+    let behind = block[from..].iter().position(|byte| *byte == 10)?;
+    Some(from + behind)
 }
 
 // Adds a piece to the k characters that are kept of a line, up to 515 in all, and tells how many are kept then.
@@ -73,22 +51,18 @@ fn keep(part: &[u8], kept: &mut [u8], k: usize) -> usize
     requires { (k ≤ 515) × (515 ≤ length kept.old) }
     ensures { Keeps (take k kept.old ++ part.now) kept.old kept.new result }
 {
-    let more = least(515 - k, part.len());
-    let mut i = 0;
-    while i < more {
-        kept[k + i] = part[i];
-        i += 1;
-    }
+    let more = (515 - k).min(part.len());
+    kept[k..k + more].copy_from_slice(&part[..more]);
     k + more
 }
 
-// How many digits a reply has.
-fn digits_told(r: Replied) -> usize
-    ensures { result ≡ digits_told r }
+// How many digits a reply has: a refusal's number has two.
+fn digits_told(told: Result<u64, Refusal>) -> usize
+    ensures { result ≡ digits_told told }
 {
-    match r {
-        Replied::Digits(n) => n as usize,
-        Replied::Refused(_) => 2,
+    match told {
+        Ok(n) => n as usize,
+        Err(_) => 2,
     }
 }
 
@@ -135,14 +109,6 @@ fn finish_line(
     answer_line(&kept[0..n], scratch, out, at)
 }
 
-// How far the lines of a block are answered.
-#[derive(Drop)]
-struct Progress {
-    used: usize,
-    kept: usize,
-    written: usize,
-}
-
 // Answers the lines that end in a block, as many as `out` has room for, and keeps the line that the block leaves unfinished.
 fn answer_lines(
     block: &[u8],
@@ -162,8 +128,8 @@ fn answer_lines(
     let mut at = 0;
     let mut left = k;
     let mut written = 0;
-    let mut end = line_end(block, 0);
-    while end < block.len() {
+    // `split` would give the same lines, and not tell whether the last of them has ended.
+    while let Some(end) = line_end(block, at) {
         if out.len() - written < 515 {
             return Progress {
                 used: at,
@@ -174,12 +140,10 @@ fn answer_lines(
         written = finish_line(&block[at..end], kept, left, scratch, out, written);
         left = 0;
         at = end + 1;
-        end = line_end(block, at);
     }
-    left = keep(&block[at..], kept, left);
     Progress {
         used: block.len(),
-        kept: left,
+        kept: keep(&block[at..], kept, left),
         written,
     }
 }
@@ -189,8 +153,11 @@ fn clear_behind(kept: &mut [u8], n: usize)
     requires { (n ≤ 515) × (515 ≤ length kept.old) }
     ensures { kept.new ≡ filled 515 (take n kept.old) kept.old }
 {
-    lent::clear_u8(&mut kept[n..515]);
+    kept[n..515].fill(0);
 }
+
+// The caller lends all memory, since the project uses no heap: so `kept` and its length k, the scratch and `out` are parameters here,
+// slices of any length.
 
 // Answers a block of a file. The first k of `kept` hold what was kept of the line that the block goes on with, nothing at the start
 // of a file. `out` gets the replies to the lines that end in the block, as many as there is room for: 515 bytes are asked for each,
@@ -198,13 +165,14 @@ fn clear_behind(kept: &mut [u8], n: usize)
 // `kept` gets the first 515 characters of the line that is left unfinished, then zeros up to 515; the scratch gets zeros up to
 // `lent::SCRATCH`; both keep what stands after. Refuses with 1 where less than `lent::SCRATCH` of scratch, 515 of kept or 515 of
 // out is lent, or k is above 515; then nothing is touched.
+#[tactic(auto, using(crate::specs::AnswerLaws::lent_enough), unfolding(crate::specs::Answers::used_of, crate::specs::Answers::fed_of, crate::specs::Answers::kept_left, crate::specs::Answers::replies_left, lent::specs::Lent::memory_left))]
 pub fn answer_block(
     block: &[u8],
     kept: &mut [u8],
     k: usize,
     scratch: &mut [u64],
     out: &mut [u8],
-) -> Fed
+) -> Result<Progress, Refusal>
     ensures answer { result
         ≡ fed_of (little kept.old k scratch.old out.old) (take k kept.old)
         block.now (used_of result) }
@@ -220,21 +188,23 @@ pub fn answer_block(
         ≡ scratch_left (little kept.old k scratch.old out.old) scratch.old }
 {
     if is_little(kept, k, scratch, out) {
-        return Fed::Refused(1);
+        return Err(Refusal::LittleLent);
     }
     let gone = answer_lines(block, kept, k, scratch, out);
     clear_behind(kept, gone.kept);
     lent::clear_scratch(scratch);
-    Fed::Taken {
-        used: gone.used,
-        kept: gone.kept,
-        written: gone.written,
-    }
+    Ok(gone)
 }
 
 // Answers what is kept at the end of a file: a line, unless it is empty. Tells how many bytes were written. The scratch gets zeros
 // up to `lent::SCRATCH`. Refuses with 1 where less is lent than `answer_block` asks for; then nothing is touched.
-pub fn answer_end(kept: &[u8], k: usize, scratch: &mut [u64], out: &mut [u8]) -> Ended
+#[tactic(auto, using(crate::specs::AnswerLaws::lent_enough), unfolding(crate::specs::Answers::ended_of, crate::specs::Answers::replies_left, lent::specs::Lent::memory_left))]
+pub fn answer_end(
+    kept: &[u8],
+    k: usize,
+    scratch: &mut [u64],
+    out: &mut [u8],
+) -> Result<usize, Refusal>
     ensures answer { result
         ≡ ended_of (little kept.now k scratch.old out.old) (take k kept.now) }
     ensures out { out.new
@@ -244,11 +214,11 @@ pub fn answer_end(kept: &[u8], k: usize, scratch: &mut [u64], out: &mut [u8]) ->
         ≡ scratch_left (little kept.now k scratch.old out.old) scratch.old }
 {
     if is_little(kept, k, scratch, out) {
-        return Ended::Refused(1);
+        return Err(Refusal::LittleLent);
     }
     if k == 0 {
         lent::clear_scratch(scratch);
-        return Ended::Written(0);
+        return Ok(0);
     }
-    Ended::Written(answer_line(&kept[0..k], scratch, out, 0))
+    Ok(answer_line(&kept[0..k], scratch, out, 0))
 }

@@ -1,86 +1,59 @@
 // Every move at every row of the present chain, each undone again.
-use super::tallies::Tally;
-use super::{memory, tallies};
-
-fn print_direction(up: bool) {
-    if up {
-        memory::text(b"+");
-    } else {
-        memory::text(b"-");
-    }
-}
+use super::trial::{Trial, print_told};
+use std::io;
 
 // The kind, the direction and the row of a move of a small number, and the chain after it.
-fn print_move(n: u64, kind: u8, up: bool, row: u8, bench: &[u64]) {
-    if 27 < n {
-        return;
+fn print_move(rt: &impl Print, trial: &Trial, kind: u8, up: bool, row: u8) -> io::Result<()> {
+    if trial.tally.n <= 27 {
+        print!(rt; " {kind}{}{row} ", if up { "+" } else { "-" })?;
+        print_told(rt, &trial.bench)?;
+        println!(rt; "")?;
     }
-    memory::text(b" ");
-    memory::print(kind as u64);
-    print_direction(up);
-    memory::print(row as u64);
-    memory::text(b" ");
-    tallies::print_told(bench);
-    memory::text(b"\n");
+    Ok(())
 }
 
 // A move, the chain told, and the move undone.
-fn there_and_back(t: Tally, bench: &mut [u64], kind: u8, up: bool, row: u8) -> Tally {
-    let reply = memory::reply_of(bench::move_chain(bench, kind, up, row));
-    let there = tallies::noted(t, reply, bench);
-    if reply != 0 {
-        return there;
+fn there_and_back(
+    rt: &impl Print,
+    trial: &mut Trial,
+    kind: u8,
+    up: bool,
+    row: u8,
+) -> io::Result<()> {
+    if trial.move_chain(rt, kind, up, row)? {
+        print_move(rt, trial, kind, up, row)?;
+        trial.tell(rt)?;
+        trial.move_chain(rt, kind, !up, row)?;
     }
-    print_move(t.n, kind, up, row, bench);
-    let told = tallies::told(there, bench);
-    let back = memory::reply_of(bench::move_chain(bench, kind, !up, row));
-    tallies::noted(told, back, bench)
-}
-
-fn both_ways(t: Tally, bench: &mut [u64], kind: u8, row: u8) -> Tally {
-    let up = there_and_back(t, bench, kind, true, row);
-    there_and_back(up, bench, kind, false, row)
+    Ok(())
 }
 
 // Kinds 0 and 3 are none.
-fn all_kinds(t: Tally, bench: &mut [u64], row: u8) -> Tally {
-    let none = both_ways(t, bench, 0, row);
-    let first = both_ways(none, bench, 1, row);
-    let second = both_ways(first, bench, 2, row);
-    both_ways(second, bench, 3, row)
-}
-
-fn rows_below(t: Tally, bench: &mut [u64], end: u8) -> Tally {
-    let mut next = t;
-    let mut row = 0;
-    while row < end {
-        next = all_kinds(next, bench, row);
-        row += 1;
+fn all_kinds(rt: &impl Print, trial: &mut Trial, row: u8) -> io::Result<()> {
+    for kind in 0..4 {
+        there_and_back(rt, trial, kind, true, row)?;
+        there_and_back(rt, trial, kind, false, row)?;
     }
-    next
+    Ok(())
 }
 
-fn print_chain(n: u64, bench: &[u64]) {
-    if 27 < n {
-        return;
+fn print_chain(rt: &impl Print, trial: &Trial) -> io::Result<()> {
+    if trial.tally.n <= 27 {
+        print_told(rt, &trial.bench)?;
+        println!(rt; "")?;
     }
-    tallies::print_told(bench);
-    memory::text(b"\n");
+    Ok(())
 }
 
-// 128 is 0 modulo 64.
-fn past_rows(t: Tally, bench: &mut [u64]) -> Tally {
-    let first = all_kinds(t, bench, 41);
-    let wide = all_kinds(first, bench, 128);
-    all_kinds(wide, bench, 255)
-}
-
-// The rows below `end`, 39, 40, 41, 128 and 255.
-pub fn all_rows(t: Tally, bench: &mut [u64], end: u8) -> Tally {
-    print_chain(t.n, bench);
-    let told = tallies::told(t, bench);
-    let low = rows_below(told, bench, end);
-    let next = all_kinds(low, bench, 39);
-    let last = all_kinds(next, bench, 40);
-    past_rows(last, bench)
+// The rows below `end`, 39, 40, 41, 128 and 255. 128 is 0 modulo 64.
+pub fn all_rows(rt: &impl Print, trial: &mut Trial, end: u8) -> io::Result<()> {
+    print_chain(rt, trial)?;
+    trial.tell(rt)?;
+    for row in 0..end {
+        all_kinds(rt, trial, row)?;
+    }
+    for row in [39, 40, 41, 128, 255] {
+        all_kinds(rt, trial, row)?;
+    }
+    Ok(())
 }

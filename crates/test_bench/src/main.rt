@@ -14,163 +14,83 @@
 
 mod every_move;
 mod memory;
-mod refusals;
+mod refused;
 mod strolls;
-mod tallies;
+mod trial;
 mod walks;
 
-use bench::Benched;
-use tallies::Tally;
-
-const STDIN_FILENO: i32 = 0;
-
-const STDOUT_FILENO: i32 = 1;
-
-// The numbers of a record as far as they are read; the last one may still grow.
-#[derive(Drop)]
-struct Record {
-    numbers: [u16; 66],
-    k: usize,
-}
-
-// The record with one number more, 0 as yet.
-fn with_number(r: Record) -> Record {
-    let k = r.k;
-    if 66 <= k {
-        return r;
-    }
-    let mut numbers = r.numbers;
-    numbers[k] = 0;
-    Record { numbers, k: k + 1 }
-}
-
-// The record with one digit more in its last number.
-fn with_digit(r: Record, c: u8) -> Record {
-    let k = r.k;
-    if k == 0 {
-        return r;
-    }
-    if 66 < k {
-        return r;
-    }
-    let mut numbers = r.numbers;
-    let grown = numbers[k - 1] % 1000 * 10 + (c % 16) as u16;
-    numbers[k - 1] = grown;
-    Record { numbers, k }
-}
-
-// The record with one character more of its line.
-fn with_character(r: Record, c: u8) -> Record {
-    if c == b' ' {
-        return with_number(r);
-    }
-    if r.k == 0 {
-        return with_digit(with_number(r), c);
-    }
-    with_digit(r, c)
-}
-
-fn first_numbers(numbers: &[u16], n: usize) -> &[u16] {
-    if n <= numbers.len() {
-        return &numbers[0..n];
-    }
-    &numbers[0..0]
-}
+use refusals::Refusal;
+use std::io;
+use std::io::Read;
+use test_kit::{Record, mark};
+use trial::Trial;
 
 // A chain of a number to 300: it is added to the tally of its number.
-fn try_small(t: Tally, n: u64, bench: &mut [u64]) -> Tally {
-    let started = tallies::with_chain(tallies::started(t, n));
-    let moved = every_move::all_rows(started, bench, 8);
-    walks::both_walks(moved, bench, false)
+fn try_small(rt: &impl Print, trial: &mut Trial, n: u64) -> io::Result<()> {
+    trial.begin(rt, n)?;
+    every_move::all_rows(rt, trial, 8)?;
+    walks::both_walks(rt, trial, false)
 }
 
 // A chain of a larger number.
-fn try_large(t: Tally, n: u64, bench: &mut [u64]) -> Tally {
-    let started = tallies::with_chain(tallies::started(t, n));
-    let moved = every_move::all_rows(started, bench, 39);
-    let walked = walks::both_walks(moved, bench, walks::is_long(n));
-    tallies::print_line(walked);
-    strolls::stroll(n, bench);
-    tallies::nothing()
+fn try_large(rt: &impl Print, trial: &mut Trial, n: u64) -> io::Result<()> {
+    trial.begin(rt, n)?;
+    every_move::all_rows(rt, trial, 39)?;
+    walks::both_walks(rt, trial, walks::is_long(n))?;
+    trial.end(rt)?;
+    strolls::stroll(rt, trial, n)?;
+    trial.tally = trial::Tally::new(0, 0);
+    Ok(())
 }
 
-fn try_chain(t: Tally, n: u64, bench: &mut [u64]) -> Tally {
+fn try_chain(rt: &impl Print, trial: &mut Trial, n: u64) -> io::Result<()> {
     if n <= 300 {
-        return try_small(t, n, bench);
+        try_small(rt, trial, n)
+    } else {
+        try_large(rt, trial, n)
     }
-    try_large(t, n, bench)
 }
 
-fn try_record(t: Tally, numbers: &[u16], bench: &mut [u64]) -> Tally {
-    match bench::open_bench(numbers, bench) {
-        Benched::Done => {
-            let n = memory::number_of_bench(bench);
-            try_chain(t, n, bench)
+// A refused record: the refusal, and a digest of the bench.
+fn tell_refused(rt: &impl Print, trial: &mut Trial, refusal: Refusal) -> io::Result<()> {
+    trial.end(rt)?;
+    let kept = mark(memory::is_kept(&trial.bench));
+    println!(rt;
+        "{} {}{kept}",
+        u8::from(refusal),
+        memory::digest_of(&trial.bench)
+    )
+}
+
+fn try_record(rt: &impl Print, trial: &mut Trial, numbers: &[u16]) -> io::Result<()> {
+    match bench::open_bench(numbers, &mut trial.bench) {
+        Ok(()) => {
+            let n = memory::number_of(&trial.bench);
+            try_chain(rt, trial, n)
         }
-        Benched::Refused(r) => {
-            tallies::print_line(t);
-            memory::print_reply(r as u64, bench);
-            tallies::nothing()
+        Err(r) => tell_refused(rt, trial, r),
+    }
+}
+
+// Each line of the input, whose first 65,536 characters are read.
+fn try_lines(rt: &(impl Print + Input), trial: &mut Trial) -> io::Result<()> {
+    let mut record = Record::<66>::new();
+    for c in rt.reader().bytes().take(65536) {
+        match c? {
+            b'\n' => {
+                try_record(rt, trial, record.numbers())?;
+                record = Record::new();
+            }
+            c => record.read(c),
         }
     }
+    Ok(())
 }
 
-// What is read of a line, and the tally of the lines before it.
-#[derive(Drop)]
-struct Reading {
-    record: Record,
-    tally: Tally,
-}
-
-fn started() -> Reading {
-    Reading {
-        record: Record {
-            numbers: [0u16; 66],
-            k: 0,
-        },
-        tally: tallies::nothing(),
-    }
-}
-
-// At the end of a line its record is tried.
-fn with_record(r: Reading, bench: &mut [u64]) -> Reading {
-    let record = r.record;
-    let numbers = record.numbers;
-    let k = record.k;
-    let before = r.tally;
-    let tally = try_record(before, first_numbers(&numbers, k), bench);
-    Reading {
-        record: Record { numbers, k: 0 },
-        tally,
-    }
-}
-
-fn with_byte(r: Reading, c: u8, bench: &mut [u64]) -> Reading {
-    if c == b'\n' {
-        return with_record(r, bench);
-    }
-    let before = r.record;
-    let record = with_character(before, c);
-    let tally = r.tally;
-    Reading { record, tally }
-}
-
-fn answer(text: &[u8], bench: &mut [u64]) {
-    let mut reading = started();
-    let mut i = 0;
-    while i < text.len() {
-        reading = with_byte(reading, text[i], bench);
-        i += 1;
-    }
-    let tally = reading.tally;
-    tallies::print_line(tally);
-}
-
-fn main() {
-    let mut text = io::large_buffer();
-    let n = io::read_full(STDIN_FILENO, &mut text);
-    let mut bench = [u64::MAX; 384];
-    answer(&text[..n], &mut bench);
-    io::write_all(STDOUT_FILENO, b"refusals\n");
-    refusals::tell_all();
+fn main(rt: HostRuntime) -> io::Result<()> {
+    let mut trial = Trial::new();
+    try_lines(&rt, &mut trial)?;
+    trial.end(&rt)?;
+    println!(rt; "refusals")?;
+    refused::tell_all(&rt)
 }

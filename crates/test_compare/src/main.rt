@@ -7,219 +7,182 @@
 // lengths up to 26, a line for each first length.
 #![tactic(auto)]
 
-ghost use Rattle.std.specs.Prelude.{◌≡◌, ◌≤◌, ◌<◌, length};
+ghost use Rattle.std.specs.Prelude.{◌≡◌, ◌≤◌, ◌<◌, length, take};
 
-use comparing::Compared;
+use std::cmp::Ordering;
+use std::io;
+use test_kit::{Word, long_word, spell};
 
-const STDOUT_FILENO: i32 = 1;
-
-fn text(bytes: &[u8]) {
-    io::write_all(STDOUT_FILENO, bytes);
-}
-
-fn print(number: u8) {
-    io::print_decimal(STDOUT_FILENO, number as u64);
-}
-
-fn print_compared(u: &[u8], v: &[u8]) {
+fn print_compared(rt: &impl Print, u: &[u8], v: &[u8]) -> io::Result<()> {
     match comparing::compare_words(u, v) {
-        Compared::Earlier => text(b"<"),
-        Compared::Same => text(b"="),
-        Compared::Later => text(b">"),
-        Compared::Refused(number) => print(number),
-    }
-}
-
-// Letters in and above 0 to 3.
-fn letter_of(k: u64) -> u8 {
-    match k {
-        0 => 0,
-        1 => 1,
-        2 => 2,
-        3 => 3,
-        4 => 4,
-        5 => 255,
-        6 => 19,
-        _ => 131,
+        Ok(Ordering::Less) => print!(rt; "<"),
+        Ok(Ordering::Equal) => print!(rt; "="),
+        Ok(Ordering::Greater) => print!(rt; ">"),
+        Err(r) => print!(rt; "{}", u8::from(r)),
     }
 }
 
 // ---- words of few letters
 
-// A word of up to three letters: those from `from` on.
-#[derive(Drop)]
-struct Spelled {
-    letters: [u8; 3],
-    from: usize,
+// How many words of up to three letters there are among six.
+const WORDS: usize = 259;
+
+fn word_at(index: usize) -> Word {
+    spell(&[0, 1, 2, 3, 4, 255], index)
 }
 
-// The words of the first six letters in the order of their lengths, the empty one first.
-fn spell(index: u64) -> Spelled
-    ensures { (result.from ≤ 3) × (length result.letters ≡ 3) }
-{
-    let mut letters = [0u8; 3];
-    let mut rest = index;
-    let mut from = 3;
-    while 0 < from {
-        if rest == 0 {
-            return Spelled { letters, from };
+fn print_row(rt: &impl Print, u: &[u8]) -> io::Result<()> {
+    for j in 0..WORDS {
+        print_compared(rt, u, word_at(j).letters())?;
+    }
+    println!(rt; "")
+}
+
+fn print_pairs(rt: &impl Print) -> io::Result<()> {
+    for i in 0..WORDS {
+        print_row(rt, word_at(i).letters())?;
+    }
+    Ok(())
+}
+
+// ---- long words
+
+// A word of up to 255 letters. No heap: an array with the count beside it.
+#[derive(Clone, Copy)]
+struct Long {
+    letters: [u8; 255],
+    count: usize,
+    ghost some: { 0 < count },
+    ghost fits: { count ≤ 255 },
+}
+
+impl Long {
+    // The filler repeated, with a 3 at the end of `count` letters.
+    fn new(filler: u8, count: usize) -> Long
+        requires { (0 < count) × (count ≤ 255) }
+        ensures { result.count ≡ count }
+    {
+        Long {
+            letters: long_word(filler, count - 1),
+            count,
         }
-        from -= 1;
-        letters[from] = letter_of((rest - 1) % 6);
-        rest = (rest - 1) / 6;
     }
-    Spelled { letters, from }
-}
 
-fn print_with(u: &[u8], j: u64) {
-    let v = spell(j);
-    let from = v.from;
-    let letters = v.letters;
-    print_compared(u, &letters[from..3]);
-}
-
-fn print_row(u: &[u8]) {
-    for j in 0..259 {
-        print_with(u, j);
+    fn letters(&self) -> &[u8]
+        ensures { result.now ≡ take self.now.count self.now.letters }
+    {
+        &self.letters[..self.count]
     }
-    text(b"\n");
-}
 
-fn print_row_of(i: u64) {
-    let u = spell(i);
-    let from = u.from;
-    let letters = u.letters;
-    print_row(&letters[from..3]);
-}
-
-fn print_pairs() {
-    for i in 0..259 {
-        print_row_of(i);
+    // The word with a 1 at the place. The last letter stays.
+    fn with_one(self, place: usize) -> Long
+        ensures { result.count ≡ self.count }
+    {
+        let mut word = self;
+        if place < word.count - 1 {
+            word.letters[place] = 1;
+        }
+        word
     }
 }
 
 // ---- long words that differ in one place
 
-fn show_words(old: &[u8], new: &[u8], place: usize)
+// Letters in and above 0 to 3.
+const LETTERS: [u8; 8] = [0, 1, 2, 3, 4, 255, 19, 131];
+
+fn show_words(rt: &impl Print, old: &[u8], new: &[u8], place: usize) -> io::Result<()>
     requires { place ≤ length old.now }
 {
-    print_compared(old, new);
-    print_compared(new, old);
-    print_compared(&old[0..place], new);
-    print_compared(new, &old[0..place]);
+    print_compared(rt, old, new)?;
+    print_compared(rt, new, old)?;
+    print_compared(rt, &old[..place], new)?;
+    print_compared(rt, new, &old[..place])
 }
 
-fn show_change(filler: u8, count: usize, place: usize, letter: u8)
-    requires { (place < count) × (count ≤ 130) }
+// Each letter is put at the place.
+fn show_place(rt: &impl Print, old: &Long, place: usize) -> io::Result<()>
+    requires { place < old.now.count }
 {
-    let mut old = [filler; 130];
-    old[count - 1] = 3;
-    let mut new = [filler; 130];
-    new[count - 1] = 3;
-    new[place] = letter;
-    show_words(&old[0..count], &new[0..count], place);
-}
-
-fn show_place(filler: u8, count: usize, place: usize)
-    requires { (place < count) × (count ≤ 130) }
-{
-    for k in 0..8 {
-        show_change(filler, count, place, letter_of(k));
+    let mut new = *old;
+    for letter in LETTERS {
+        new.letters[place] = letter;
+        show_words(rt, old.letters(), new.letters(), place)?;
     }
+    Ok(())
 }
 
-fn show_places(filler: u8, count: usize)
-    requires { count ≤ 130 }
-{
-    for place in 0..count {
-        show_place(filler, count, place);
+fn show_places(rt: &impl Print, old: &Long) -> io::Result<()> {
+    for place in 0..old.count {
+        show_place(rt, old, place)?;
     }
-    text(b"\n");
+    println!(rt; "")
 }
 
-fn show_fillers(count: usize)
-    requires { count ≤ 130 }
+fn show_fillers(rt: &impl Print, count: usize) -> io::Result<()>
+    requires { (0 < count) × (count ≤ 255) }
 {
     for filler in 0..4 {
-        show_places(filler, count);
+        show_places(rt, &Long::new(filler, count))?;
     }
+    Ok(())
 }
 
-fn show_changes(from: usize, to: usize)
-    requires { to ≤ 131 }
+fn show_changes(rt: &impl Print, from: usize, to: usize) -> io::Result<()>
+    requires { (0 < from) × (to ≤ 256) }
 {
     for count in from..to {
-        show_fillers(count);
+        show_fillers(rt, count)?;
     }
+    Ok(())
 }
 
 // ---- words of zeros with one 1
 
-// Zeros with a 1 at the place, and a 3 at the end of `count` letters. The last place has the 3 alone.
-fn with_one(count: usize, place: usize) -> [u8; 130]
-    requires { (place < count) × (count ≤ 130) }
-    ensures { length result ≡ 130 }
-{
-    let mut word = [0u8; 130];
-    word[place] = 1;
-    word[count - 1] = 3;
-    word
-}
-
-fn show_pair(m: usize, p: usize, n: usize, q: usize)
-    requires { (p < m) × (m ≤ 130) × (q < n) × (n ≤ 130) }
-{
-    let u = with_one(m, p);
-    let v = with_one(n, q);
-    print_compared(&u[0..m], &v[0..n]);
-}
-
-fn show_row(count: usize, p: usize)
-    requires { (p < count) × (count ≤ 130) }
-{
-    for q in 0..count {
-        show_pair(count, p, count, q);
+fn show_row(rt: &impl Print, zeros: &Long, u: &[u8]) -> io::Result<()> {
+    for place in 0..zeros.count {
+        print_compared(rt, u, zeros.with_one(place).letters())?;
     }
+    Ok(())
 }
 
-fn show_ones(count: usize)
-    requires { count ≤ 130 }
-{
-    for p in 0..count {
-        show_row(count, p);
+// All pairs of the words with a 1 in place of one of the zeros, and of the zeros alone.
+fn show_ones(rt: &impl Print, zeros: &Long) -> io::Result<()> {
+    for place in 0..zeros.count {
+        show_row(rt, zeros, zeros.with_one(place).letters())?;
     }
-    text(b"\n");
+    println!(rt; "")
 }
 
-fn show_all_ones(from: usize, to: usize)
-    requires { to ≤ 131 }
+fn show_all_ones(rt: &impl Print, from: usize, to: usize) -> io::Result<()>
+    requires { (0 < from) × (to ≤ 256) }
 {
     for count in from..to {
-        show_ones(count);
+        show_ones(rt, &Long::new(0, count))?;
     }
+    Ok(())
 }
 
-fn show_length(m: usize)
-    requires { (1 ≤ m) × (m ≤ 130) }
-{
-    for n in 1..27 {
-        show_pair(m, m - 1, n, n - 1);
+fn show_length(rt: &impl Print, u: &[u8]) -> io::Result<()> {
+    for count in 1..27 {
+        print_compared(rt, u, Long::new(0, count).letters())?;
     }
-    text(b"\n");
+    println!(rt; "")
 }
 
-fn show_lengths() {
-    for m in 1..27 {
-        show_length(m);
+fn show_lengths(rt: &impl Print) -> io::Result<()> {
+    for count in 1..27 {
+        show_length(rt, Long::new(0, count).letters())?;
     }
+    Ok(())
 }
 
-fn main() {
-    print_pairs();
-    show_changes(1, 27);
-    show_changes(63, 67);
-    show_changes(127, 131);
-    show_all_ones(1, 27);
-    show_all_ones(63, 67);
-    show_lengths();
+fn main(rt: HostRuntime) -> io::Result<()> {
+    print_pairs(&rt)?;
+    show_changes(&rt, 1, 27)?;
+    show_changes(&rt, 63, 67)?;
+    show_changes(&rt, 127, 131)?;
+    show_all_ones(&rt, 1, 27)?;
+    show_all_ones(&rt, 63, 67)?;
+    show_lengths(&rt)
 }

@@ -12,19 +12,24 @@
 #![tactic(auto)]
 
 mod asked;
+mod calls;
 mod falling;
 mod left;
-mod memory;
 mod rising;
 
-fn main() {
+use std::io;
+use test_choice::Lent;
+
+fn main(rt: HostRuntime) -> io::Result<()> {
     let table = parts::table::copy();
-    let mut scratch = [0u64; 174730];
-    let mut places = [0u16; 70];
-    rising::tell_small(&mut scratch, &mut places);
-    rising::tell_edges(&mut scratch, &mut places);
-    falling::tell_random(&table, &mut scratch, &mut places);
-    left::tell_size(174719, &mut scratch, &mut places);
-    left::tell_size(174720, &mut scratch, &mut places);
-    left::tell_size(174730, &mut scratch, &mut places);
+    let mut scratch = [0; 174730];
+    let mut places = [0; 70];
+    let mut lent = Lent {
+        scratch: &mut scratch,
+        places: &mut places,
+    };
+    rising::tell_small(&rt, &mut lent)?;
+    rising::tell_edges(&rt, &mut lent)?;
+    falling::tell_random(&rt, &table, &mut lent)?;
+    left::tell_sizes(&rt, lent.scratch)
 }

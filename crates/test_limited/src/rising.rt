@@ -1,141 +1,142 @@
 // Under more and more parts: the cheapest chain, and the count.
-use super::{asked, memory};
-use best::{Limits, Prices};
+use super::{asked, calls};
+use std::io;
+use test_choice::{Lent, Question};
+use test_kit::{Spaced, Told, first};
 
 // Whether the best chain within the same limits is the chain with this digest, or is refused likewise.
-fn is_best(
-    n: u64,
-    l: Limits,
-    p: Prices,
-    digest: u64,
-    scratch: &mut [u64],
-    places: &mut [u16],
-) -> bool {
-    let chosen = best::choose_chain(n, l, p, scratch, places);
-    memory::digest_of(chosen, places) == digest
+fn is_best(asked: Question, digest: u64, lent: &mut Lent<'_>) -> bool {
+    let found = calls::choose_chain(asked, lent);
+    calls::digest_of_chain(found, lent.places) == digest
 }
 
 // The cheapest chain, where it is not the one with the digest `last`: the limit on parts, what is told, and = where the best chain is the
 // same. The digest of what is told.
 fn tell_changed(
-    n: u64,
-    l: Limits,
-    p: Prices,
+    rt: &impl Print,
+    asked: Question,
     last: u64,
-    scratch: &mut [u64],
-    places: &mut [u16],
-) -> u64 {
-    let chosen = limited::cheapest_chain(n, l, p, scratch, places);
-    let digest = memory::digest_of(chosen, places);
-    if digest == last {
-        return digest;
+    lent: &mut Lent<'_>,
+) -> io::Result<u64> {
+    let found = calls::cheapest_chain(asked, lent);
+    let digest = calls::digest_of_chain(found, lent.places);
+    if digest != last {
+        let numbers = Spaced(first(lent.places, calls::parts_of(found)));
+        print!(rt; " {}: {}{numbers}", asked.limits.parts, Told(found))?;
+        print!(rt;
+            "{}",
+            if is_best(asked, digest, lent) {
+                " ="
+            } else {
+                ""
+            }
+        )?;
     }
-    memory::text(b" ");
-    memory::print(l.parts as u64);
-    memory::text(b": ");
-    memory::print_chosen(chosen, places);
-    if is_best(n, l, p, digest, scratch, places) {
-        memory::text(b" =");
-    }
-    digest
+    Ok(digest)
 }
 
-// Under each of the first `times` limits on parts. The digest of what is told last.
-fn tell_rising(n: u64, way: u64, times: u64, scratch: &mut [u64], places: &mut [u16]) -> u64 {
-    let p = asked::prices_of(way);
+// Under each of some limits on parts. The digest of what is told last.
+fn tell_rising(
+    rt: &impl Print,
+    n: u64,
+    way: usize,
+    limits: &[u8],
+    lent: &mut Lent<'_>,
+) -> io::Result<u64> {
     let mut last = 0;
-    for i in 0..times {
-        let l = asked::limits_of(way, asked::parts_at(i));
-        last = tell_changed(n, l, p, last, scratch, places);
+    for parts in limits {
+        last = tell_changed(rt, asked::in_way(n, way, *parts), last, lent)?;
     }
-    last
+    Ok(last)
 }
 
 // The count, where it is not `last`, with the limit on parts.
-fn tell_count(n: u64, parts: u8, last: u64, scratch: &mut [u64]) -> u64 {
-    let count = memory::number_of(limited::count_up_to(n, parts, scratch));
+fn tell_count(
+    rt: &impl Print,
+    n: u64,
+    parts: u8,
+    last: u64,
+    scratch: &mut [u64],
+) -> io::Result<u64> {
+    let count = calls::count_up_to(n, parts, scratch);
     if count != last {
-        memory::text(b" ");
-        memory::print(parts as u64);
-        memory::text(b": ");
-        memory::print(count);
+        print!(rt; " {parts}: {count}")?;
     }
-    count
+    Ok(count)
 }
 
-fn count_rising(n: u64, times: u64, scratch: &mut [u64]) -> u64 {
+fn count_rising(rt: &impl Print, n: u64, limits: &[u8], scratch: &mut [u64]) -> io::Result<u64> {
     let mut last = u64::MAX;
-    for i in 0..times {
-        last = tell_count(n, asked::parts_at(i), last, scratch);
+    for parts in limits {
+        last = tell_count(rt, n, *parts, last, scratch)?;
     }
-    last
+    Ok(last)
 }
 
 // The table count, at the end of a line of counts.
-fn tell_all(n: u64, scratch: &mut [u64]) {
-    memory::text(b" ");
-    memory::print(memory::number_of(counting::table_count(n, scratch)));
-    memory::text(b"\n");
+fn tell_all(rt: &impl Print, n: u64, scratch: &mut [u64]) -> io::Result<()> {
+    println!(rt; " {}", calls::count_all(n, scratch))
 }
 
 // ---- small numbers: up to seven parts, and without a limit. At entry the scratch holds n
 
-fn tell_small_way(n: u64, way: u64, scratch: &mut [u64], places: &mut [u16]) {
-    memory::print_pair(n, way);
-    memory::hold(scratch, n);
-    let last = tell_rising(n, way, 8, scratch, places);
-    let l = asked::limits_of(way, asked::no_limit(n));
-    tell_changed(n, l, asked::prices_of(way), last, scratch, places);
-    memory::text(b"\n");
+fn tell_small_way(rt: &impl Print, n: u64, way: usize, lent: &mut Lent<'_>) -> io::Result<()> {
+    print!(rt; "{n} {way}")?;
+    lent.scratch.fill(n);
+    let last = tell_rising(rt, n, way, first(&asked::PARTS, 8), lent)?;
+    tell_changed(rt, asked::in_way(n, way, asked::no_limit(n)), last, lent)?;
+    println!(rt; "")
 }
 
-fn tell_small_ways(n: u64, scratch: &mut [u64], places: &mut [u16]) {
+fn tell_small_ways(rt: &impl Print, n: u64, lent: &mut Lent<'_>) -> io::Result<()> {
     for i in 0..7 {
-        tell_small_way(n, (n % 14 + i) % 14, scratch, places);
+        tell_small_way(rt, n, (n as usize % 14 + i) % 14, lent)?;
     }
+    Ok(())
 }
 
-fn tell_small_counts(n: u64, scratch: &mut [u64]) {
-    memory::print(n);
-    memory::hold(scratch, n);
-    let last = count_rising(n, 8, scratch);
-    tell_count(n, asked::no_limit(n), last, scratch);
-    tell_all(n, scratch);
+fn tell_small_counts(rt: &impl Print, n: u64, scratch: &mut [u64]) -> io::Result<()> {
+    print!(rt; "{n}")?;
+    scratch.fill(n);
+    let last = count_rising(rt, n, first(&asked::PARTS, 8), scratch)?;
+    tell_count(rt, n, asked::no_limit(n), last, scratch)?;
+    tell_all(rt, n, scratch)
 }
 
-pub fn tell_small(scratch: &mut [u64], places: &mut [u16]) {
+pub fn tell_small(rt: &impl Print, lent: &mut Lent<'_>) -> io::Result<()> {
     for n in 0..201 {
-        tell_small_ways(n, scratch, places);
-        tell_small_counts(n, scratch);
+        tell_small_ways(rt, n, lent)?;
+        tell_small_counts(rt, n, lent.scratch)?;
     }
+    Ok(())
 }
 
 // ---- numbers at the edges: all limits on parts. At entry the scratch holds the way, or ones at the counts
 
-fn tell_edge_way(n: u64, way: u64, scratch: &mut [u64], places: &mut [u16]) {
-    memory::print_pair(n, way);
-    memory::hold(scratch, way);
-    tell_rising(n, way, 71, scratch, places);
-    memory::text(b"\n");
+fn tell_edge_way(rt: &impl Print, n: u64, way: usize, lent: &mut Lent<'_>) -> io::Result<()> {
+    print!(rt; "{n} {way}")?;
+    lent.scratch.fill(way as u64);
+    tell_rising(rt, n, way, &asked::PARTS, lent)?;
+    println!(rt; "")
 }
 
-fn tell_edge_counts(n: u64, scratch: &mut [u64]) {
-    memory::print(n);
-    memory::hold(scratch, 1);
-    count_rising(n, 71, scratch);
-    tell_all(n, scratch);
+fn tell_edge_counts(rt: &impl Print, n: u64, scratch: &mut [u64]) -> io::Result<()> {
+    print!(rt; "{n}")?;
+    scratch.fill(1);
+    count_rising(rt, n, &asked::PARTS, scratch)?;
+    tell_all(rt, n, scratch)
 }
 
-fn tell_edge(i: u64, scratch: &mut [u64], places: &mut [u16]) {
-    let n = asked::number_at(i);
+fn tell_edge(rt: &impl Print, n: u64, i: usize, lent: &mut Lent<'_>) -> io::Result<()> {
     for j in 0..4 {
-        tell_edge_way(n, (i % 14 + 3 * j) % 14, scratch, places);
+        tell_edge_way(rt, n, (i % 14 + 3 * j) % 14, lent)?;
     }
-    tell_edge_counts(n, scratch);
+    tell_edge_counts(rt, n, lent.scratch)
 }
 
-pub fn tell_edges(scratch: &mut [u64], places: &mut [u16]) {
-    for i in 0..16 {
-        tell_edge(i, scratch, places);
+pub fn tell_edges(rt: &impl Print, lent: &mut Lent<'_>) -> io::Result<()> {
+    for (i, n) in asked::NUMBERS.iter().enumerate() {
+        tell_edge(rt, *n, i, lent)?;
     }
+    Ok(())
 }

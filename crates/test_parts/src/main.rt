@@ -5,129 +5,93 @@
 ghost use Rattle.std.specs.Prelude.{◌≡◌, get_or};
 ghost use Rattle.parts.specs.Table.{parts};
 
-use parts::{Number, Sum};
+use std::{array, io};
+use test_kit::{OrDash, first};
 
-const STDOUT_FILENO: i32 = 1;
-
-fn print(n: u64) {
-    io::print_decimal(STDOUT_FILENO, n);
-}
-
-fn space() {
-    io::write_all(STDOUT_FILENO, b" ");
-}
-
-fn end_line() {
-    io::write_all(STDOUT_FILENO, b"\n");
-}
-
-// A part's number, or - where it has none.
-fn print_number(a: u64, b: u64) {
-    match parts::number_of(a, b) {
-        Number::At(number) => print(number as u64),
-        Number::None => {
-            io::write_all(STDOUT_FILENO, b"-");
-        }
-    }
-}
-
-fn print_exponents(number: u16) {
+fn print_exponents(rt: &impl Print, number: u16) -> io::Result<()> {
     let exponents = parts::exponents_at(number);
-    print(exponents.a);
-    space();
-    print(exponents.b);
-    end_line();
+    println!(rt; "{} {}", exponents.a, exponents.b)
 }
 
 // One line of the table.
-fn print_entry(table: &[u64], number: u16) {
+fn print_entry(rt: &impl Print, table: &[u64], number: u16) -> io::Result<()> {
     let value = parts::value_of(table, number);
     let exponents = parts::exponents_of(value);
-    print(number as u64);
-    space();
-    print(value);
-    space();
-    print(exponents.a);
-    space();
-    print(exponents.b);
-    space();
-    print_number(exponents.a, exponents.b);
-    space();
-    print_exponents(number);
+    let (a, b) = (exponents.a, exponents.b);
+    print!(rt;
+        "{number} {value} {a} {b} {} ",
+        OrDash(parts::number_of(a, b))
+    )?;
+    print_exponents(rt, number)
 }
 
 // Numbers that no part has.
-fn print_past() {
-    print_exponents(1344);
-    print_exponents(1345);
-    print_exponents(u16::MAX);
+fn print_past(rt: &impl Print) -> io::Result<()> {
+    print_exponents(rt, 1344)?;
+    print_exponents(rt, 1345)?;
+    print_exponents(rt, u16::MAX)
 }
 
-fn print_point(a: u64, b: u64) {
-    print(a);
-    space();
-    print(b);
-    space();
-    print_number(a, b);
-    end_line();
-}
+// Exponents at the edges of the table, within and without.
+const POINTS: [(u64, u64); 15] = [
+    (63, 0),
+    (64, 0),
+    (62, 1),
+    (63, 1),
+    (32, 20),
+    (33, 20),
+    (40, 20),
+    (0, 40),
+    (1, 40),
+    (0, 41),
+    (2, 39),
+    (3, 39),
+    (u64::MAX, 0),
+    (0, u64::MAX),
+    (u64::MAX, u64::MAX),
+];
 
-fn print_points() {
-    print_point(63, 0);
-    print_point(64, 0);
-    print_point(62, 1);
-    print_point(63, 1);
-    print_point(32, 20);
-    print_point(33, 20);
-    print_point(40, 20);
-    print_point(0, 40);
-    print_point(1, 40);
-    print_point(0, 41);
-    print_point(2, 39);
-    print_point(3, 39);
-    print_point(u64::MAX, 0);
-    print_point(0, u64::MAX);
-    print_point(u64::MAX, u64::MAX);
-}
-
-// The sum of the parts that some numbers name, or - where it is 2^64 or more.
-fn print_sum(table: &[u64], numbers: &[u16]) {
-    match parts::sum_of(table, numbers) {
-        Sum::Fits(sum) => print(sum),
-        Sum::Over => {
-            io::write_all(STDOUT_FILENO, b"-");
-        }
+fn print_points(rt: &impl Print) -> io::Result<()> {
+    for (a, b) in POINTS {
+        println!(rt; "{a} {b} {}", OrDash(parts::number_of(a, b)))?;
     }
-    end_line();
+    Ok(())
+}
+
+fn print_sum(rt: &impl Print, table: &[u64], numbers: &[u16]) -> io::Result<()> {
+    println!(rt; "{}", OrDash(parts::sum_of(table, numbers)))
 }
 
 // 2^a × 3^b + 2^c × 3^d.
-fn print_pair(table: &[u64], a: u64, b: u64, c: u64, d: u64) {
+fn print_pair(
+    rt: &impl Print,
+    table: &[u64],
+    (a, b): (u64, u64),
+    (c, d): (u64, u64),
+) -> io::Result<()> {
     let numbers = [parts::part_number(a, b), parts::part_number(c, d)];
-    print_sum(table, &numbers);
+    print_sum(rt, table, &numbers)
 }
 
 // The numbers of the 64 powers of 2, and of 1 once more.
+// It stands in three programs, so that test_kit does without the crate parts.
 fn powers() -> [u16; 65] {
-    let mut numbers = [0u16; 65];
-    let mut a = 0;
-    while a < 64 {
-        numbers[a] = parts::part_number(a as u64, 0);
-        a += 1;
-    }
-    numbers
+    array::from_fn(|i| parts::part_number(i as u64 % 64, 0))
 }
 
-fn print_sums(table: &[u64]) {
+fn print_powers(rt: &impl Print, table: &[u64]) -> io::Result<()> {
     let numbers = powers();
-    print_sum(table, &numbers[0..0]);
-    print_sum(table, &numbers[0..64]);
-    print_sum(table, &numbers);
-    print_pair(table, 63, 0, 62, 0);
-    print_pair(table, 63, 0, 63, 0);
-    print_pair(table, 62, 1, 61, 0);
-    print_pair(table, 62, 1, 62, 0);
-    print_pair(table, 62, 1, 61, 1);
+    print_sum(rt, table, &[])?;
+    print_sum(rt, table, first(&numbers, 64))?;
+    print_sum(rt, table, &numbers)
+}
+
+fn print_pairs(rt: &impl Print, table: &[u64]) -> io::Result<()> {
+    print_pair(rt, table, (63, 0), (62, 0))?;
+    print_pair(rt, table, (63, 0), (63, 0))?;
+    print_pair(rt, table, (62, 1), (61, 0))?;
+    print_pair(rt, table, (62, 1), (62, 0))?;
+    print_pair(rt, table, (62, 1), (61, 1))
 }
 
 // The largest part, from a copy of the table: what is lent to `value_of` is known to be the part table.
@@ -138,16 +102,14 @@ fn largest() -> u64
     parts::value_of(&table, 1343)
 }
 
-fn main() {
+fn main(rt: HostRuntime) -> io::Result<()> {
     let table = parts::table::copy();
-    let mut number: u16 = 0;
-    while number < 1344 {
-        print_entry(&table, number);
-        number += 1;
+    for number in 0..1344 {
+        print_entry(&rt, &table, number)?;
     }
-    print(largest());
-    end_line();
-    print_points();
-    print_past();
-    print_sums(&table);
+    println!(rt; "{}", largest())?;
+    print_points(&rt)?;
+    print_past(&rt)?;
+    print_powers(&rt, &table)?;
+    print_pairs(&rt, &table)
 }

@@ -2,20 +2,18 @@
 // count or the number of the refusal.
 #![tactic(auto)]
 
-fn tell(n: u64) {
-    let told = match counting::plain_count(n) {
-        counting::Counted::Count(w) => w,
-        counting::Counted::Refused(k) => k as u64,
-    };
-    io::print_decimal(1, told);
-    io::write_all(1, b"\n");
+use std::io;
+use test_kit::Told;
+
+fn tell(rt: &impl Print, n: u64) -> io::Result<()> {
+    println!(rt; "{}", Told(counting::plain_count(n)))
 }
 
-fn main() {
+fn main(rt: HostRuntime) -> io::Result<()> {
     for n in 0..2001 {
-        tell(n);
+        tell(&rt, n)?;
     }
-    tell(65536);
-    tell(18446744073709551615);
-    tell(65535);
+    tell(&rt, 65536)?;
+    tell(&rt, u64::MAX)?;
+    tell(&rt, 65535)
 }

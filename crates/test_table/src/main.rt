@@ -3,6 +3,9 @@
 // where the ones that follow them end. The scratch has 512 numbers, one more, or 5,248. One of 511 is refused and holds no zero.
 #![tactic(auto)]
 
+use std::io;
+use test_kit::{Told, ends};
+
 // The last number that the plain count serves, powers of two and of three with their neighbours, a large count, and the last
 // number.
 const SPECIAL: [u64; 24] = [
@@ -32,73 +35,46 @@ const SPECIAL: [u64; 24] = [
     18446744073709551615,
 ];
 
-fn hold_ones(scratch: &mut [u64]) {
-    let mut i = 0;
-    while i < scratch.len() {
-        scratch[i] = u64::MAX;
-        i += 1;
-    }
+fn tell(rt: &impl Print, n: u64, scratch: &mut [u64]) -> io::Result<()> {
+    scratch.fill(u64::MAX);
+    let count = Told(counting::table_count(n, scratch));
+    let (zeros, ones) = ends(scratch, 0, &0, &u64::MAX);
+    println!(rt; "{count} {zeros} {ones}")
 }
 
-// Where the run of x that begins at `from` ends.
-fn end_of_run(s: &[u64], from: usize, x: u64) -> usize {
-    let mut i = from;
-    while i < s.len() {
-        if s[i] != x {
-            return i;
-        }
-        i += 1;
-    }
-    i
-}
-
-fn tell(n: u64, scratch: &mut [u64]) {
-    hold_ones(scratch);
-    let told = match counting::table_count(n, scratch) {
-        counting::Counted::Count(w) => w,
-        counting::Counted::Refused(k) => k as u64,
-    };
-    let zeros = end_of_run(scratch, 0, 0);
-    let ones = end_of_run(scratch, zeros, u64::MAX);
-    io::print_decimal(1, told);
-    io::write_all(1, b" ");
-    io::print_decimal(1, zeros as u64);
-    io::write_all(1, b" ");
-    io::print_decimal(1, ones as u64);
-    io::write_all(1, b"\n");
-}
-
-fn tell_small(scratch: &mut [u64]) {
+fn tell_small(rt: &impl Print, scratch: &mut [u64]) -> io::Result<()> {
     for n in 0..2001 {
-        tell(n, scratch);
+        tell(rt, n, scratch)?;
     }
+    Ok(())
 }
 
 // 2^64 - 1 divided by 1 to 500.
-fn tell_divided(scratch: &mut [u64]) {
+fn tell_divided(rt: &impl Print, scratch: &mut [u64]) -> io::Result<()> {
     for d in 1..501 {
-        tell(u64::MAX / d, scratch);
+        tell(rt, u64::MAX / d, scratch)?;
     }
+    Ok(())
 }
 
-fn tell_special(scratch: &mut [u64]) {
-    let special = SPECIAL;
-    for i in 0..24 {
-        tell(special[i], scratch);
+fn tell_special(rt: &impl Print, scratch: &mut [u64]) -> io::Result<()> {
+    for n in SPECIAL {
+        tell(rt, n, scratch)?;
     }
+    Ok(())
 }
 
-fn main() {
-    let mut exact = [0u64; 512];
-    tell_small(&mut exact);
-    tell_divided(&mut exact);
-    tell_special(&mut exact);
-    let mut longer = [0u64; 513];
-    tell_divided(&mut longer);
-    tell_special(&mut longer);
-    let mut large = [0u64; 5248];
-    tell_divided(&mut large);
-    tell_special(&mut large);
-    let mut short = [0u64; 511];
-    tell_special(&mut short);
+fn main(rt: HostRuntime) -> io::Result<()> {
+    let mut exact = [0; 512];
+    tell_small(&rt, &mut exact)?;
+    tell_divided(&rt, &mut exact)?;
+    tell_special(&rt, &mut exact)?;
+    let mut longer = [0; 513];
+    tell_divided(&rt, &mut longer)?;
+    tell_special(&rt, &mut longer)?;
+    let mut large = [0; 5248];
+    tell_divided(&rt, &mut large)?;
+    tell_special(&rt, &mut large)?;
+    let mut short = [0; 511];
+    tell_special(&rt, &mut short)
 }

@@ -3,7 +3,7 @@
 -- In order: reading; writing; both for a chain of n.
 use Rattle.std.proofs.Math.Path.{◌≡◌, refl, ap, sym}
 use Rattle.std.proofs.Common.{◌∙◌, ltb→lt, eqb→eq, le-ltb}
-use Rattle.std.specs.Prelude.{◌↔◌, ◌⊎◌, Bool, true, false, cond, ◌||◌, ltb, eqb, length}
+use Rattle.std.specs.Prelude.{Result, Ok, Err, ◌↔◌, ◌⊎◌, Bool, true, false, cond, ◌||◌, ltb, eqb, length}
 use Rattle.std.proofs.Math.Logic.{inl, inr, ⊎_elim}
 use Rattle.std.proofs.Math.Logic.Iff
 use mathlib.Core.List.{List, [], ◌∷◌, map}
@@ -15,20 +15,18 @@ use Rattle.std.proofs.Math.ListN.{get_or}
 use Rattle.chains.specs.Chains.{Part, Chained, total, ChainOf}
 use Rattle.chains.specs.Words.{Word}
 use Rattle.chains.proofs.Bounds.{chain_of_0}
+use Rattle.refusals.specs.declared.Refusal.{Refusal}
+use Rattle.refusals.specs.declared.Refusal.TheVariants.{LittleLent, UnknownPart, NotChained, TooLarge, NoTreeWord}
 use Rattle.parts.specs.Parts.{part_number}
 use Rattle.lent.specs.Lent.{Enough}
 use Rattle.words.specs.Records.{record_parts}
 use Rattle.words.specs.WordLaws.{parts_of_numbers, chain_judged}
 use Rattle.words.specs.TestLaws.{is_first, is_second, in_first, in_second, one_of_both}
 use Rattle.words.specs.Refusals.{not_below, Outside}
-use Rattle.words.specs.declared.Judged.{Judged}
-use Rattle.words.specs.declared.Judged.TheVariants as judged
-use Rattle.words.specs.declared.Written.TheVariants as written
 use Rattle.ranking.specs.Services.{Outcome, refused, gives, lent, answer_of, judged_as, of_record}
 use Rattle.ranking.specs.Outcomes.{record_gives}
 use Rattle.ranking.specs.RoundTrips.{found_refused}
 use Rattle.ranking.specs.Refusals.{record_refusals, Little, found_too_little}
-use Rattle.ranking.specs.declared.Found.TheVariants as found
 use Rattle.trees.specs.Trees.{produced, number, read_back}
 use Rattle.trees.specs.TreeOf.{tree_of}
 use Rattle.trees.proofs.TreeLaws.{tree_number, tree_chain, tree_positive, tree_chain_tree, produced_short, chain_tree, chain_tree_chain}
@@ -75,63 +73,63 @@ foreign_test (l ∷ w) = (there (foreign_test w), back (foreign_test w))
 -- The refusals of a tree word, where `refused r` says that it is refused with r: 15 exactly if some letter is foreign, or if none is,
 -- the number is below 2^64, and the lines do not produce the word; 10 exactly if no letter is foreign and the number is 2^64 or
 -- more; no other.
-pub record TreeRefusals (w : Word) (refused : ℕ → Type 0) : Type 0 where
-  pub refusal_15 : refused 15 ↔ (Foreign w ⊎ ((¬ Foreign w) × (number w < 2 ^ 64) × Unproduced w))
-  pub refusal_10 : refused 10 ↔ ((¬ Foreign w) × (2 ^ 64 ≤ number w))
-  pub no_other : (r : ℕ) → refused r → (r ≡ 15) ⊎ (r ≡ 10)
+pub record TreeRefusals (w : Word) (refused : Refusal → Type 0) : Type 0 where
+  pub refusal_15 : refused NoTreeWord ↔ (Foreign w ⊎ ((¬ Foreign w) × (number w < 2 ^ 64) × Unproduced w))
+  pub refusal_10 : refused TooLarge ↔ ((¬ Foreign w) × (2 ^ 64 ≤ number w))
+  pub no_other : (r : Refusal) → refused r → (r ≡ NoTreeWord) ⊎ (r ≡ TooLarge)
 
 -- The same of an answer that is refused exactly when another one is.
-pub tree_lifted : {w : Word} {p q : ℕ → Type 0} → ((r : ℕ) → q r ↔ p r) → TreeRefusals w p → TreeRefusals w q
+pub tree_lifted : {w : Word} {p q : Refusal → Type 0} → ((r : Refusal) → q r ↔ p r) → TreeRefusals w p → TreeRefusals w q
 tree_lifted f h = record {
-  refusal_15 = Iff.trans (f 15) h.refusal_15;
-  refusal_10 = Iff.trans (f 10) h.refusal_10;
+  refusal_15 = Iff.trans (f NoTreeWord) h.refusal_15;
+  refusal_10 = Iff.trans (f TooLarge) h.refusal_10;
   no_other = λ r e. h.no_other r ((f r).0 e);
 }
 
 module _ (w : Word) where
-  abbrev refuse : ℕ → Judged
-  refuse r = judged.Refused r
+  abbrev refuse : Refusal → Result ℕ Refusal
+  refuse r = Err r
 
-  abbrev sum : Judged
-  sum = judged.Sum (number w)
+  abbrev sum : Result ℕ Refusal
+  sum = Ok (number w)
 
   abbrev fits : Bool
   fits = ltb (number w) (2 ^ 64)
 
-  abbrev fitting : Judged
-  fitting = cond (produced w (number w)) sum (refuse 15)
+  abbrev fitting : Result ℕ Refusal
+  fitting = cond (produced w (number w)) sum (refuse NoTreeWord)
 
-  abbrev known : Judged
-  known = cond fits fitting (refuse 10)
+  abbrev known : Result ℕ Refusal
+  known = cond fits fitting (refuse TooLarge)
 
-  same : (r s : ℕ) → refuse r ≡ refuse s → r ≡ s
+  same : (r s : Refusal) → refuse r ≡ refuse s → r ≡ s
   same r s e = cc
 
-  no_sum : (n r : ℕ) → ¬ (judged.Sum n ≡ refuse r)
-  no_sum n r e = let z : ◌≡◌ {A = ℕ} 0 1 = cc in omega arith
+  no_sum : (n : ℕ) (r : Refusal) → ¬ (Ok n ≡ refuse r)
+  no_sum n r e = cc
 
   not_made : (¬ T (produced w (number w))) ↔ Unproduced w
   unfolding Unproduced
   not_made = (λ h n t. h (rw (tree_number w n t) t), λ h. h (number w))
 
-  fitting_only : (r : ℕ) → fitting ≡ refuse r → r ≡ 15
+  fitting_only : (r : Refusal) → fitting ≡ refuse r → r ≡ NoTreeWord
   fitting_only r e =
-      ⊎_elim (λ (f : sum ≡ refuse r). absurd (no_sum (number w) r f)) (λ (f : refuse 15 ≡ refuse r). sym (same 15 r f))
-      (one_of_both (produced w (number w)) sum (refuse 15) (refuse r) e)
+      ⊎_elim (λ (f : sum ≡ refuse r). absurd (no_sum (number w) r f)) (λ (f : refuse NoTreeWord ≡ refuse r). sym (same NoTreeWord r f))
+      (one_of_both (produced w (number w)) sum (refuse NoTreeWord) (refuse r) e)
 
-  known_only : (r : ℕ) → known ≡ refuse r → (r ≡ 15) ⊎ (r ≡ 10)
+  known_only : (r : Refusal) → known ≡ refuse r → (r ≡ NoTreeWord) ⊎ (r ≡ TooLarge)
   known_only r e =
-      ⊎_elim (λ (f : fitting ≡ refuse r). inl (fitting_only r f)) (λ (f : refuse 10 ≡ refuse r). inr (sym (same 10 r f)))
-      (one_of_both fits fitting (refuse 10) (refuse r) e)
+      ⊎_elim (λ (f : fitting ≡ refuse r). inl (fitting_only r f)) (λ (f : refuse TooLarge ≡ refuse r). inr (sym (same TooLarge r f)))
+      (one_of_both fits fitting (refuse TooLarge) (refuse r) e)
 
-  known_15 : (known ≡ refuse 15) ↔ ((number w < 2 ^ 64) × Unproduced w)
+  known_15 : (known ≡ refuse NoTreeWord) ↔ ((number w < 2 ^ 64) × Unproduced w)
   known_15 =
-      Iff.trans (in_first fits fitting (refuse 10) (refuse 15) (λ e. omega (arith, same 10 15 e)))
+      Iff.trans (in_first fits fitting (refuse TooLarge) (refuse NoTreeWord) (λ e. cc))
       (Iff.and (ltb→lt (number w) (2 ^ 64), lt→ltb (number w) (2 ^ 64))
-      (Iff.trans (is_second (produced w (number w)) sum (refuse 15) (no_sum (number w) 15)) not_made))
+      (Iff.trans (is_second (produced w (number w)) sum (refuse NoTreeWord) (no_sum (number w) NoTreeWord)) not_made))
 
   judged_15 : (b : Bool) → T b ↔ Foreign w
-      → (cond b (refuse 15) known ≡ refuse 15) ↔ (Foreign w ⊎ ((¬ Foreign w) × (number w < 2 ^ 64) × Unproduced w))
+      → (cond b (refuse NoTreeWord) known ≡ refuse NoTreeWord) ↔ (Foreign w ⊎ ((¬ Foreign w) × (number w < 2 ^ 64) × Unproduced w))
   judged_15 true t = (λ _. inl (t.0 tt), λ _. refl)
   judged_15 false t = (
     λ e. let k = known_15.0 e in inr (t.1, k.0, k.1),
@@ -144,13 +142,13 @@ module _ (w : Word) where
   judged_tree_refusals = record {
     refusal_15 = judged_15 (foreign w) (foreign_test w);
     refusal_10 =
-        Iff.trans (in_second (foreign w) (refuse 15) known (refuse 10) (λ e. omega (arith, same 15 10 e)))
+        Iff.trans (in_second (foreign w) (refuse NoTreeWord) known (refuse TooLarge) (λ e. cc))
         (Iff.and (Iff.not (foreign_test w))
-        (Iff.trans (is_second fits fitting (refuse 10) (λ e. omega (arith, fitting_only 10 e))) (not_below (number w) (2 ^ 64))));
+        (Iff.trans (is_second fits fitting (refuse TooLarge) (λ e. let f = fitting_only TooLarge e in cc)) (not_below (number w) (2 ^ 64))));
     no_other =
         λ r e.
-        ⊎_elim (λ (f : refuse 15 ≡ refuse r). inl (sym (same 15 r f))) (known_only r)
-        (one_of_both (foreign w) (refuse 15) known (refuse r) e);
+        ⊎_elim (λ (f : refuse NoTreeWord ≡ refuse r). inl (sym (same NoTreeWord r f))) (known_only r)
+        (one_of_both (foreign w) (refuse NoTreeWord) known (refuse r) e);
   }
 
   -- Else it gets the number that it is produced from.
@@ -160,40 +158,40 @@ module _ (w : Word) where
       let (low, high) = tree_letters w n h i b in
       ⊎_elim (λ (e : get_or w i 0 ≡ 0). omega arith) (λ (m : 3 < get_or w i 0). omega arith) o
 
-  pub judged_tree : (n : ℕ) → (tree_judged w ≡ judged.Sum n) ↔ (T (produced w n) × (n < 2 ^ 64))
+  pub judged_tree : (n : ℕ) → (tree_judged w ≡ Ok n) ↔ (T (produced w n) × (n < 2 ^ 64))
   unfolding tree_judged
   judged_tree n =
-      Iff.trans (in_second (foreign w) (refuse 15) known (judged.Sum n) (λ e. no_sum n 15 (sym e)))
+      Iff.trans (in_second (foreign w) (refuse NoTreeWord) known (Ok n) (λ e. no_sum n NoTreeWord (sym e)))
       (Iff.trans
       (Iff.and (Iff.not (foreign_test w))
-      (Iff.trans (in_first fits fitting (refuse 10) (judged.Sum n) (λ e. no_sum n 10 (sym e)))
+      (Iff.trans (in_first fits fitting (refuse TooLarge) (Ok n) (λ e. no_sum n TooLarge (sym e)))
       (Iff.and (ltb→lt (number w) (2 ^ 64), lt→ltb (number w) (2 ^ 64))
-      (in_first (produced w (number w)) sum (refuse 15) (judged.Sum n) (λ e. no_sum n 15 (sym e))))))
+      (in_first (produced w (number w)) sum (refuse NoTreeWord) (Ok n) (λ e. no_sum n NoTreeWord (sym e))))))
       (there, back))
     where
-      there : (¬ Foreign w) × ((number w < 2 ^ 64) × (T (produced w (number w)) × (judged.Sum (number w) ≡ judged.Sum n)))
+      there : (¬ Foreign w) × ((number w < 2 ^ 64) × (T (produced w (number w)) × (sum ≡ Ok n)))
           → T (produced w n) × (n < 2 ^ 64)
       there (_, (low, (made, e))) = let m : number w ≡ n = cc in (rw m at made, omega arith)
 
       back : T (produced w n) × (n < 2 ^ 64)
-          → (¬ Foreign w) × ((number w < 2 ^ 64) × (T (produced w (number w)) × (judged.Sum (number w) ≡ judged.Sum n)))
-      back (made, low) = let m = tree_number w n made in (no_foreign n made, (omega arith, (rw m made, ap judged.Sum m)))
+          → (¬ Foreign w) × ((number w < 2 ^ 64) × (T (produced w (number w)) × (sum ≡ Ok n)))
+      back (made, low) = let m = tree_number w n made in (no_foreign n made, (omega arith, (rw m made, ap Ok m)))
 
   -- So the outcome of reading it.
-  as_refused : (r : ℕ) (j : Judged) → (tree_as w j ≡ refused r) ↔ (j ≡ judged.Refused r)
+  as_refused : (r : Refusal) (j : Result ℕ Refusal) → (tree_as w j ≡ refused r) ↔ (j ≡ Err r)
   unfolding tree_as
-  as_refused r (judged.Sum n) = (
-    λ e. let z : ◌≡◌ {A = ℕ} 0 1 = cc in absurd (omega arith),
-    λ e. let z : ◌≡◌ {A = ℕ} 0 1 = cc in absurd (omega arith),
+  as_refused r (Ok n) = (
+    λ e. cc,
+    λ e. cc,
   )
-  as_refused r (judged.Refused s) = (λ e. cc, λ e. cc)
+  as_refused r (Err s) = (λ e. cc, λ e. cc)
 
-  as_given : (n : ℕ) (c : List Part) (j : Judged) → (tree_as w j ≡ gives n c) ↔ ((j ≡ judged.Sum n) × (c ≡ read_back w))
+  as_given : (n : ℕ) (c : List Part) (j : Result ℕ Refusal) → (tree_as w j ≡ gives n c) ↔ ((j ≡ Ok n) × (c ≡ read_back w))
   unfolding tree_as
-  as_given n c (judged.Sum m) = (λ e. (cc, cc), λ k. let e : judged.Sum m ≡ judged.Sum n = k.0 in let d = k.1 in cc)
-  as_given n c (judged.Refused s) = (
-    λ e. let z : ◌≡◌ {A = ℕ} 0 1 = cc in absurd (omega arith),
-    λ k. let e : judged.Refused s ≡ judged.Sum n = k.0 in let z : ◌≡◌ {A = ℕ} 0 1 = cc in absurd (omega arith),
+  as_given n c (Ok m) = (λ e. (cc, cc), λ k. let e : Ok m ≡ Ok n = k.0 in let d = k.1 in cc)
+  as_given n c (Err s) = (
+    λ e. cc,
+    λ k. let e : Err s ≡ Ok n = k.0 in cc,
   )
 
   pub tree_refusals : TreeRefusals w (λ r. of_tree w ≡ refused r)
@@ -213,30 +211,30 @@ module _ (w : Word) where
       (rw is (tree_chain w n made), fits, tree_positive w n made, ap tree_of is ∙ tree_chain_tree w n made)
 
   -- What the call answers where enough is lent; and refusal 1, exactly where too little is.
-  pub read_tree_refusals : (s p : List ℕ) → Enough 64 s p → TreeRefusals w (λ r. answer_of (lent s p (of_tree w)) ≡ found.Refused r)
+  pub read_tree_refusals : (s p : List ℕ) → Enough 64 s p → TreeRefusals w (λ r. answer_of (lent s p (of_tree w)) ≡ Err r)
   read_tree_refusals s p h = tree_lifted (found_refused s p h (of_tree w)) tree_refusals
 
-  pub read_tree_too_little : (s p : List ℕ) → (answer_of (lent s p (of_tree w)) ≡ found.Refused 1) ↔ Little s p
+  pub read_tree_too_little : (s p : List ℕ) → (answer_of (lent s p (of_tree w)) ≡ Err LittleLent) ↔ Little s p
   read_tree_too_little s p =
       found_too_little s p (of_tree w)
-      (λ e. ⊎_elim (λ (f : 1 ≡ 15). omega arith) (λ (f : 1 ≡ 10). omega arith) (tree_refusals.no_other 1 e))
+      (λ e. ⊎_elim (λ (f : LittleLent ≡ NoTreeWord). cc) (λ (f : LittleLent ≡ TooLarge). cc) (tree_refusals.no_other LittleLent e))
 
 -- ---- writing
 
 -- The refusals of a record whose tree word is asked for: 8, 9 and 10 as in reading it; 15 exactly if it is empty; no other.
-pub record RecordTreeRefusals (l : List ℕ) (refused : ℕ → Type 0) : Type 0 where
-  pub refusal_8 : refused 8 ↔ Outside l
-  pub refusal_9 : refused 9 ↔ ((¬ Outside l) × (¬ Chained (record_parts l)))
-  pub refusal_10 : refused 10 ↔ ((¬ Outside l) × Chained (record_parts l) × (2 ^ 64 ≤ total (record_parts l)))
-  pub refusal_15 : refused 15 ↔ (l ≡ [])
-  pub no_other : (r : ℕ) → refused r → (r ≡ 8) ⊎ ((r ≡ 9) ⊎ ((r ≡ 10) ⊎ (r ≡ 15)))
+pub record RecordTreeRefusals (l : List ℕ) (refused : Refusal → Type 0) : Type 0 where
+  pub refusal_8 : refused UnknownPart ↔ Outside l
+  pub refusal_9 : refused NotChained ↔ ((¬ Outside l) × (¬ Chained (record_parts l)))
+  pub refusal_10 : refused TooLarge ↔ ((¬ Outside l) × Chained (record_parts l) × (2 ^ 64 ≤ total (record_parts l)))
+  pub refusal_15 : refused NoTreeWord ↔ (l ≡ [])
+  pub no_other : (r : Refusal) → refused r → (r ≡ UnknownPart) ⊎ ((r ≡ NotChained) ⊎ ((r ≡ TooLarge) ⊎ (r ≡ NoTreeWord)))
 
-pub record_tree_lifted : {l : List ℕ} {p q : ℕ → Type 0} → ((r : ℕ) → q r ↔ p r) → RecordTreeRefusals l p → RecordTreeRefusals l q
+pub record_tree_lifted : {l : List ℕ} {p q : Refusal → Type 0} → ((r : Refusal) → q r ↔ p r) → RecordTreeRefusals l p → RecordTreeRefusals l q
 record_tree_lifted f h = record {
-  refusal_8 = Iff.trans (f 8) h.refusal_8;
-  refusal_9 = Iff.trans (f 9) h.refusal_9;
-  refusal_10 = Iff.trans (f 10) h.refusal_10;
-  refusal_15 = Iff.trans (f 15) h.refusal_15;
+  refusal_8 = Iff.trans (f UnknownPart) h.refusal_8;
+  refusal_9 = Iff.trans (f NotChained) h.refusal_9;
+  refusal_10 = Iff.trans (f TooLarge) h.refusal_10;
+  refusal_15 = Iff.trans (f NoTreeWord) h.refusal_15;
   no_other = λ r e. h.no_other r ((f r).0 e);
 }
 
@@ -247,43 +245,43 @@ chain_recorded n c h f =
     rw (chain_judged n c h f) (ap (gives n) (parts_of_numbers c (omega (arith, h.sums))))
 
 -- Without a tree word: reading the record refuses, or it gives the empty chain.
-no_tree_lem : (r : ℕ) (o : Outcome) → tree_by o ≡ no_tree r → (o ≡ refused r) ⊎ ((r ≡ 15) × ((c : List Part) × (o ≡ gives 0 c)))
+no_tree_lem : (r : Refusal) (o : Outcome) → tree_by o ≡ no_tree r → (o ≡ refused r) ⊎ ((r ≡ NoTreeWord) × ((c : List Part) × (o ≡ gives 0 c)))
 unfolding tree_by
 no_tree_lem r (refused s) e = let same : s ≡ r = cc in inl (ap refused same)
 no_tree_lem r (gives zero c) e = inr (cc, (c, refl))
-no_tree_lem r (gives (suc n) c) e = let z : ◌≡◌ {A = ℕ} 0 1 = cc in absurd (omega arith)
+no_tree_lem r (gives (suc n) c) e = cc
 
 module _ (l : List ℕ) where
-  kept : (r : ℕ) → of_record l ≡ refused r → record_tree l ≡ no_tree r
+  kept : (r : Refusal) → of_record l ≡ refused r → record_tree l ≡ no_tree r
   unfolding record_tree tree_by
   kept r e = rw e
 
-  as_record : (r : ℕ) → ¬ (r ≡ 15) → (record_tree l ≡ no_tree r) ↔ (of_record l ≡ refused r)
+  as_record : (r : Refusal) → ¬ (r ≡ NoTreeWord) → (record_tree l ≡ no_tree r) ↔ (of_record l ≡ refused r)
   unfolding record_tree
   as_record r n = (
     λ e.
-        ⊎_elim (λ (f : of_record l ≡ refused r). f) (λ (g : (r ≡ 15) × ((c : List Part) × (of_record l ≡ gives 0 c))). absurd (n g.0))
+        ⊎_elim (λ (f : of_record l ≡ refused r). f) (λ (g : (r ≡ NoTreeWord) × ((c : List Part) × (of_record l ≡ gives 0 c))). absurd (n g.0))
         (no_tree_lem r (of_record l) e),
     kept r,
   )
 
-  empty : (record_tree l ≡ no_tree 15) ↔ (l ≡ [])
+  empty : (record_tree l ≡ no_tree NoTreeWord) ↔ (l ≡ [])
   unfolding record_tree tree_by total
   empty = (there, back)
     where
-      there : tree_by (of_record l) ≡ no_tree 15 → l ≡ []
+      there : tree_by (of_record l) ≡ no_tree NoTreeWord → l ≡ []
       there e =
           ⊎_elim
-          (λ (f : of_record l ≡ refused 15).
-          ⊎_elim (λ (g : 15 ≡ 8). absurd (omega arith))
-          (⊎_elim (λ (g : 15 ≡ 9). absurd (omega arith)) (λ (g : 15 ≡ 10). absurd (omega arith)))
-          ((record_refusals l).no_other 15 f))
-          (λ (g : (15 ≡ 15) × ((c : List Part) × (of_record l ≡ gives 0 c))).
+          (λ (f : of_record l ≡ refused NoTreeWord).
+          ⊎_elim (λ (g : NoTreeWord ≡ UnknownPart). cc)
+          (⊎_elim (λ (g : NoTreeWord ≡ NotChained). cc) (λ (g : NoTreeWord ≡ TooLarge). cc))
+          ((record_refusals l).no_other NoTreeWord f))
+          (λ (g : (NoTreeWord ≡ NoTreeWord) × ((c : List Part) × (of_record l ≡ gives 0 c))).
           let (chain, numbers, _) = record_gives l 0 g.1.0 g.1.1 in
           sym numbers ∙ ap (map part_number) ((chain_of_0 g.1.0).0 chain))
-          (no_tree_lem 15 (of_record l) e)
+          (no_tree_lem NoTreeWord (of_record l) e)
 
-      back : l ≡ [] → tree_by (of_record l) ≡ no_tree 15
+      back : l ≡ [] → tree_by (of_record l) ≡ no_tree NoTreeWord
       back e = rw (e, chain_recorded 0 [] (record { chained = tt; sums = refl }) (omega arith))
 
   pub record_tree_refusals : RecordTreeRefusals l (λ r. record_tree l ≡ no_tree r)
@@ -291,50 +289,50 @@ module _ (l : List ℕ) where
   record_tree_refusals =
       let read = record_refusals l in
       record {
-        refusal_8 = Iff.trans (as_record 8 (λ e. omega arith)) read.refusal_8;
-        refusal_9 = Iff.trans (as_record 9 (λ e. omega arith)) read.refusal_9;
-        refusal_10 = Iff.trans (as_record 10 (λ e. omega arith)) read.refusal_10;
+        refusal_8 = Iff.trans (as_record UnknownPart (λ e. cc)) read.refusal_8;
+        refusal_9 = Iff.trans (as_record NotChained (λ e. cc)) read.refusal_9;
+        refusal_10 = Iff.trans (as_record TooLarge (λ e. cc)) read.refusal_10;
         refusal_15 = empty;
         no_other = only;
       }
     where
-      only : (r : ℕ) → tree_by (of_record l) ≡ no_tree r → (r ≡ 8) ⊎ ((r ≡ 9) ⊎ ((r ≡ 10) ⊎ (r ≡ 15)))
+      only : (r : Refusal) → tree_by (of_record l) ≡ no_tree r → (r ≡ UnknownPart) ⊎ ((r ≡ NotChained) ⊎ ((r ≡ TooLarge) ⊎ (r ≡ NoTreeWord)))
       only r e =
           ⊎_elim
           (λ (f : of_record l ≡ refused r).
-          ⊎_elim (λ (g : r ≡ 8). inl g)
-          (⊎_elim (λ (g : r ≡ 9). inr (inl g)) (λ (g : r ≡ 10). inr (inr (inl g))))
+          ⊎_elim (λ (g : r ≡ UnknownPart). inl g)
+          (⊎_elim (λ (g : r ≡ NotChained). inr (inl g)) (λ (g : r ≡ TooLarge). inr (inr (inl g))))
           ((record_refusals l).no_other r f))
-          (λ (g : (r ≡ 15) × ((c : List Part) × (of_record l ≡ gives 0 c))). inr (inr (inr g.0)))
+          (λ (g : (r ≡ NoTreeWord) × ((c : List Part) × (of_record l ≡ gives 0 c))). inr (inr (inr g.0)))
           (no_tree_lem r (of_record l) e)
 
   -- What the call answers where 160 places are lent; and refusal 1, exactly where fewer are.
-  told_refused : (r : ℕ) (t : TreeWord) → (tree_told t ≡ written.Refused r) ↔ (t ≡ no_tree r)
+  told_refused : (r : Refusal) (t : TreeWord) → (tree_told t ≡ Err r) ↔ (t ≡ no_tree r)
   unfolding tree_told
   told_refused r (no_tree s) = (λ e. cc, λ e. cc)
   told_refused r (tree_word w) = (
-    λ e. let z : ◌≡◌ {A = ℕ} 0 1 = cc in absurd (omega arith),
-    λ e. let z : ◌≡◌ {A = ℕ} 0 1 = cc in absurd (omega arith),
+    λ e. cc,
+    λ e. cc,
   )
 
   pub write_tree_refusals : (places : List ℕ) → 160 ≤ length places
-      → RecordTreeRefusals l (λ r. tree_told (lent_tree places (record_tree l)) ≡ written.Refused r)
+      → RecordTreeRefusals l (λ r. tree_told (lent_tree places (record_tree l)) ≡ Err r)
   unfolding lent_tree
   write_tree_refusals places h =
       record_tree_lifted (λ r. rw (le-ltb (length places) 160 h) (told_refused r (record_tree l))) record_tree_refusals
 
-  pub write_tree_too_little : (places : List ℕ) → (tree_told (lent_tree places (record_tree l)) ≡ written.Refused 1) ↔ (length places < 160)
+  pub write_tree_too_little : (places : List ℕ) → (tree_told (lent_tree places (record_tree l)) ≡ Err LittleLent) ↔ (length places < 160)
   unfolding lent_tree
   write_tree_too_little places =
-      Iff.trans (told_refused 1 (cond (ltb (length places) 160) (no_tree 1) (record_tree l)))
-      (Iff.trans (is_first (ltb (length places) 160) (no_tree 1) (record_tree l) not_one)
+      Iff.trans (told_refused LittleLent (cond (ltb (length places) 160) (no_tree LittleLent) (record_tree l)))
+      (Iff.trans (is_first (ltb (length places) 160) (no_tree LittleLent) (record_tree l) not_one)
       (ltb→lt (length places) 160, lt→ltb (length places) 160))
     where
-      not_one : ¬ (record_tree l ≡ no_tree 1)
+      not_one : ¬ (record_tree l ≡ no_tree LittleLent)
       not_one e =
-          ⊎_elim (λ (f : 1 ≡ 8). omega arith)
-          (⊎_elim (λ (f : 1 ≡ 9). omega arith) (⊎_elim (λ (f : 1 ≡ 10). omega arith) (λ (f : 1 ≡ 15). omega arith)))
-          (record_tree_refusals.no_other 1 e)
+          ⊎_elim (λ (f : LittleLent ≡ UnknownPart). cc)
+          (⊎_elim (λ (f : LittleLent ≡ NotChained). cc) (⊎_elim (λ (f : LittleLent ≡ TooLarge). cc) (λ (f : LittleLent ≡ NoTreeWord). cc)))
+          (record_tree_refusals.no_other LittleLent e)
 
   -- A tree word is that of the chain that the record names.
   pub record_tree_lem : (w : Word) → record_tree l ≡ tree_word w
@@ -344,8 +342,8 @@ module _ (l : List ℕ) where
     where
       go : (o : Outcome) → of_record l ≡ o
           → (n : ℕ) × (c : List Part) × ChainOf n c × (1 ≤ n) × (n < 2 ^ 64) × (l ≡ map part_number c) × (w ≡ tree_of c)
-      go (refused r) g = let z : ◌≡◌ {A = ℕ} 0 1 = cc (rw g at e) in absurd (omega arith)
-      go (gives zero c) g = let z : ◌≡◌ {A = ℕ} 0 1 = cc (rw g at e) in absurd (omega arith)
+      go (refused r) g = cc (rw g at e)
+      go (gives zero c) g = cc (rw g at e)
       go (gives (suc n) c) g =
           let (chain, numbers, fits) = record_gives l (suc n) c g in
           let f : tree_word (tree_of c) ≡ tree_word w = rw g at e in

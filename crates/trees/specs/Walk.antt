@@ -1,23 +1,22 @@
 -- What the private functions of this crate tell and ask for. What the services answer is in Answers.
 -- Definitions only.
-use Rattle.std.specs.Prelude.{Bool, false, cond, [], ◌∷◌, ℕ, zero, suc, ◌/◌, ◌%◌, ◌^◌, ◌≤◌, T, ltb, length}
+use Rattle.std.specs.Prelude.{Bool, false, cond, Option, Some, None, [], ◌∷◌, ℕ, zero, suc, ◌/◌, ◌%◌, ◌^◌, ◌≤◌, T, ltb, length}
 use Rattle.chains.specs.Words.{Word}
 use Rattle.trees.specs.declared.producing.Way.{Way}
-use Rattle.trees.specs.declared.producing.Way.TheVariants.{Go, Closed}
 use Rattle.trees.specs.Trees.{produced, produced_after}
 use Rattle.trees.specs.TreeOf.{letter_at, number_after, path_from}
 
 -- ---- reading along the lines
 
--- Whether the lines go on with n and give the word w, after the letter x where that is not 0.
-unfoldable pub goes_on_from : ℕ → ℕ → Word → Bool
-goes_on_from n zero w = produced w n
-goes_on_from n (suc x) w = produced_after (suc x) w n
+-- Whether the lines go on with n and give the word w, after the letter x where there is one.
+unfoldable pub goes_on_from : ℕ → Option ℕ → Word → Bool
+goes_on_from n None w = produced w n
+goes_on_from n (Some x) w = produced_after x w n
 
--- The same of a way on, which may be closed.
-unfoldable pub goes_on : Way → Word → Bool
-goes_on (Go n x) w = goes_on_from n x w
-goes_on Closed w = false
+-- The same of a way on, if there is one.
+unfoldable pub goes_on : Option Way → Word → Bool
+goes_on None w = false
+goes_on (Some y) w = goes_on_from y.n y.next w
 
 -- A word that some number's lines produce, with room for its path word.
 pub record Readable (w : Word) (places : ℕ) : Type 0 where

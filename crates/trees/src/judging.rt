@@ -3,38 +3,26 @@ ghost use Rattle.std.specs.Prelude.{◌≡◌};
 ghost use Rattle.trees.specs.Answers.{foreign, tree_judged};
 
 use super::{numbers, producing};
-use words::{Judged, Weighed};
+use refusals::Refusal;
 
 // Whether some letter is not 1, 2 or 3.
 fn is_foreign(letters: &[u8]) -> bool
     ensures { result ≡ foreign letters.now }
 {
-    let mut i = 0;
-    while i < letters.len() {
-        if letters[i] == 0 {
-            return true;
-        }
-        if 3 < letters[i] {
-            return true;
-        }
-        i += 1;
-    }
-    false
+    letters.iter().any(|letter| *letter == 0 || 3 < *letter)
 }
 
 // The number of a tree word, or refusal 15 for a letter outside 1 to 3, 10 where the number reaches 2^64, 15 where the lines do not
 // produce the word, in this order.
-pub fn judge(letters: &[u8]) -> Judged
+pub fn judge(letters: &[u8]) -> Result<u64, Refusal>
     ensures { result ≡ tree_judged letters.now }
 {
     if is_foreign(letters) {
-        return Judged::Refused(15);
+        return Err(Refusal::NoTreeWord);
     }
-    let Weighed::Number(n) = numbers::weigh(letters) else {
-        return Judged::Refused(10);
-    };
-    if producing::is_produced(letters, n) {
-        return Judged::Sum(n);
+    let n = numbers::weigh(letters).ok_or(Refusal::TooLarge)?;
+    if !producing::is_produced(letters, n) {
+        return Err(Refusal::NoTreeWord);
     }
-    Judged::Refused(15)
+    Ok(n)
 }

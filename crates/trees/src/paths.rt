@@ -13,14 +13,11 @@ pub fn write_path(letters: &[u8], path: &mut [u8]) -> usize
 {
     let mut owed: usize = 0;
     let mut j = 0;
-    let mut i = 0;
-    while i < letters.len() {
-        let letter = letters[i];
-        path[j] = 2 * (letter / 3) + (owed % 2) as u8;
-        let point = (letter / 2) as usize;
+    for letter in letters {
+        path[j] = 2 * (*letter / 3) + (owed % 2) as u8;
+        let point = usize::from(*letter / 2);
         owed = owed / (1 + point) + (1 - point);
         j += point;
-        i += 1;
     }
     path[j] = 3;
     j + 1

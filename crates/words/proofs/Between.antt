@@ -1,14 +1,13 @@
 -- Places of which a run has been written (`between` of Walks): nothing written, one place more, a second run behind the first, the
--- first place of a run written again; what stands from the run on; and a run of one value.
-use mathlib.Core.Path.{◌≡◌, sym, ap, ap₂, ◌∙◌}
+-- first place of a run written again; what stands from the run on; and a part that is filled with one value.
+use mathlib.Core.Path.{◌≡◌, refl, sym, ap, ap₂, ◌∙◌}
 use mathlib.Core.List.{List, [], ◌∷◌, ◌++◌, append_assoc}
 use Prim.Native.Nat.{ℕ, suc, ◌+◌, ◌-◌, ◌≤◌, ◌<◌}
-use native.Mathlib.Nat.{sub_self}
 use native.Mathlib.Numerals.{add-one}
 use native.Mathlib.Omega.{arith}
-use lib.ListN.{length, take, drop, get_or, set, replicate, length-append, length-drop, length-replicate, take-append-drop}
-use lib.ListN.{replicate-append-replicate}
+use lib.ListN.{length, take, drop, get_or, set, replicate, length-append, length-drop, take-append-drop}
 use lib.Seq.{length-take-le, drop-cons, drop-drop, take_at, drop_at, set_at, drop-append-add}
+use borrow.Rule.Slice.PartMut.{mid_of, put_mid, mid_len, Post-is}
 use Rattle.words.specs.Walks.{between}
 
 module _ (l : List ℕ) where
@@ -61,12 +60,8 @@ module _ (l : List ℕ) where
 abbrev pub run : ℕ → ℕ → ℕ → List ℕ → List ℕ
 run from i v l = between from i (replicate (i - from) v) l
 
-pub run_none : (from v : ℕ) (l : List ℕ) → l ≡ run from from v l
-run_none from v l = rw sub_self (between_none l from)
-
-pub run_more : (from i v : ℕ) (l s : List ℕ) → from ≤ i → i < length l → s ≡ run from i v l → set s i v ≡ run from (i + 1) v l
-run_more from i v l s h k e =
-    let n : i - from + 1 ≡ i + 1 - from = omega arith in
-    ap (λ z. set z i v) e
-    ∙ between_more l from i (replicate (i - from) v) h (omega arith) (length-replicate (i - from) v) v k
-    ∙ ap (λ xs. between from (i + 1) xs l) (replicate-append-replicate (i - from) 1 v ∙ ap (λ m. replicate m v) n)
+-- A part from i up to j that is filled with one value.
+pub filled_run : (l : List ℕ) (i j v : ℕ) → i ≤ j → j ≤ length l → (ys : List ℕ) → ys ≡ replicate (length (mid_of i (j - i) l)) v
+    → put_mid i (j - i) l ys ≡ run i j v l
+unfolding between
+filled_run l i j v h k ys e = rw (e, mid_len i j l k, Post-is i j l h) refl

@@ -1,4 +1,5 @@
 -- A number below 2^64, or that it is not: which of the two, and what a word of a known answer stands for.
+use Rattle.std.proofs.Common.{Some, None}
 use mathlib.Core.Path.{◌≡◌, refl}
 use mathlib.Core.Bool.{Bool, true, false, cond}
 use mathlib.Core.List.{[], ◌∷◌}
@@ -12,29 +13,28 @@ use Rattle.chains.specs.Chains.{total}
 use Rattle.chains.specs.Words.{Word, chain_of}
 use Rattle.chains.proofs.Weight.{weight, total_chain_of}
 use Rattle.words.specs.Answers.{sized}
-use Rattle.words.specs.declared.Weighed.TheVariants.{Number, Over}
 
-pub sized_number : (n : ℕ) → n < 2 ^ 64 → sized n ≡ Number n
+pub sized_number : (n : ℕ) → n < 2 ^ 64 → sized n ≡ Some n
 unfolding sized
 sized_number n h = rw (lt-ltb n (2 ^ 64) h)
 
-pub sized_over : (n : ℕ) → 2 ^ 64 ≤ n → sized n ≡ Over
+pub sized_over : (n : ℕ) → 2 ^ 64 ≤ n → sized n ≡ None
 unfolding sized
 sized_over n h = rw (le-ltb n (2 ^ 64) h)
 
-pub number_is : (n m : ℕ) → Number m ≡ sized n → m ≡ n
+pub number_is : (n m : ℕ) → Some m ≡ sized n → m ≡ n
 unfolding sized
 number_is n m e = go (ltb n (2 ^ 64)) e
   where
-    go : (t : Bool) → Number m ≡ cond t (Number n) Over → m ≡ n
+    go : (t : Bool) → Some m ≡ cond t (Some n) None → m ≡ n
     go true d = cc
     go false d = cc
 
-pub over_is : (n : ℕ) → Over ≡ sized n → 2 ^ 64 ≤ n
+pub over_is : (n : ℕ) → None ≡ sized n → 2 ^ 64 ≤ n
 unfolding sized
 over_is n e = go (ltb n (2 ^ 64)) refl e
   where
-    go : (t : Bool) → ltb n (2 ^ 64) ≡ t → Over ≡ cond t (Number n) Over → 2 ^ 64 ≤ n
+    go : (t : Bool) → ltb n (2 ^ 64) ≡ t → None ≡ cond t (Some n) None → 2 ^ 64 ≤ n
     go true d f = let z : ◌≡◌ {A = ℕ} 0 1 = cc in absurd (omega arith)
     go false d f = ltb-false n (2 ^ 64) d
 

@@ -1,16 +1,15 @@
 -- A word in two numbers, one bit a letter: what packing a record's word and packing letters answer, and the parts that two numbers
 -- hold, at all inputs.
 -- Definitions only; that the word and its chain can be read from the numbers is in PackedLaws.
-use Rattle.std.specs.Prelude.{◌≡◌, true, cond, List, [], ◌∷◌, map, ℕ, zero, suc, ◌+◌, ◌*◌, ◌/◌, ◌%◌, ◌^◌, ltb, length}
+use Rattle.std.specs.Prelude.{Result, Ok, Err, ◌≡◌, true, cond, List, [], ◌∷◌, map, ℕ, zero, suc, ◌+◌, ◌*◌, ◌/◌, ◌%◌, ◌^◌, ltb, length}
 use Rattle.chains.specs.Chains.{Part, total}
 use Rattle.chains.specs.Words.{Word, word_of, chain_of, reads}
 use Rattle.lent.specs.Lent.{filled}
 use Rattle.parts.specs.Parts.{part_number}
+use Rattle.refusals.specs.declared.Refusal.{Refusal}
+use Rattle.refusals.specs.declared.Refusal.TheVariants.{BadWord, TooLarge}
 use Rattle.words.specs.Records.{record_parts, judged_of}
-use Rattle.words.specs.declared.Judged.{Judged}
-use Rattle.words.specs.declared.Judged.TheVariants as judged
 use Rattle.words.specs.declared.Packed.{Packed}
-use Rattle.words.specs.declared.Packed.TheVariants as packed
 
 -- ---- a word in two numbers
 
@@ -40,22 +39,22 @@ unpacked (suc k) rises marks = (2 * (rises % 2) + marks % 2) ∷ unpacked k (ris
 
 -- The answer for a word: the number n that its parts sum to, its two numbers and how many letters it has.
 unfoldable pub packed_word : ℕ → Word → Packed
-packed_word n w = packed.Word n (bits rise w) (bits mark w) (length w)
+packed_word n w = record { n = n; rises = bits rise w; marks = bits mark w; letters = length w }
 
 -- Packing a record's word: the sum and the two numbers, or the record's refusal.
-unfoldable pub packed_by : List ℕ → Judged → Packed
-packed_by l (judged.Sum n) = packed_word n (word_of (record_parts l))
-packed_by l (judged.Refused r) = packed.Refused r
+unfoldable pub packed_by : List ℕ → Result ℕ Refusal → Result Packed Refusal
+packed_by l (Ok n) = Ok (packed_word n (word_of (record_parts l)))
+packed_by l (Err r) = Err r
 
-unfoldable pub packed_of : List ℕ → Packed
+unfoldable pub packed_of : List ℕ → Result Packed Refusal
 packed_of l = packed_by l (judged_of l)
 
 -- Packing letters: 7 for a word that is not good, 10 where its parts sum to 2^64 or more, else the sum and the two numbers.
-unfoldable pub packed_letters : Word → Packed
+unfoldable pub packed_letters : Word → Result Packed Refusal
 packed_letters w =
     cond (reads true w)
-    (cond (ltb (total (chain_of w)) (2 ^ 64)) (packed_word (total (chain_of w)) w) (packed.Refused 10))
-    (packed.Refused 7)
+    (cond (ltb (total (chain_of w)) (2 ^ 64)) (Ok (packed_word (total (chain_of w)) w)) (Err TooLarge))
+    (Err BadWord)
 
 -- ---- from two numbers to parts
 

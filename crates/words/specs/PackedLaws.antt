@@ -2,6 +2,7 @@
 -- In order: letters before others; the letters between two parts; how large the numbers are; the word and its chain read back; what
 -- the answer of packing says of the record, and of the letters. The definitions are in Packed and Walks; the parts of any two
 -- numbers are in UnpackedLaws.
+use Rattle.std.specs.Prelude.{Result, Ok, Err}
 use Rattle.std.proofs.Math.Path.{◌≡◌, refl, sym, ap}
 use Rattle.std.proofs.Common.{◌∙◌, pow-suc, mul-suc, mul-le-mul_left, arith, pow-add, pow_mono}
 use Rattle.std.specs.Prelude.{◌⊎◌, Bool, cond, List, [], ◌∷◌, ◌++◌, ℕ, zero, suc, ◌+◌, ◌-◌, ◌*◌, ◌/◌, ◌%◌, ◌^◌, ◌≤◌, ◌<◌, replicate}
@@ -17,16 +18,15 @@ use Rattle.chains.proofs.RoundTrip.{word_reads}
 use Rattle.chains.proofs.Weight.{total_chain_of}
 use Rattle.chains.proofs.Bounds.{letters_bound, word_bound}
 use Rattle.chains.proofs.Marks.{taken, point, chain_step}
+use Rattle.refusals.specs.declared.Refusal.{Refusal}
+use Rattle.refusals.specs.declared.Refusal.TheVariants.{BadWord, TooLarge}
 use Rattle.words.specs.Records.{record_parts, judged_of, Burned}
 use Rattle.words.specs.RecordLaws.{judged_sum}
 use Rattle.words.specs.Packed.{bits, rise, mark, PackedAs, unpacked, packed_word, packed_by, packed_of, packed_letters}
 use Rattle.words.specs.Packed.{packed_chain}
 use Rattle.words.specs.UnpackedLaws.{no_mark}
 use Rattle.words.specs.Walks.{steps, rises_from, marks_from}
-use Rattle.words.specs.declared.Judged.{Judged}
-use Rattle.words.specs.declared.Judged.TheVariants as judged
 use Rattle.words.specs.declared.Packed.{Packed}
-use Rattle.words.specs.declared.Packed.TheVariants as packed
 
 -- ---- letters before others
 
@@ -179,38 +179,38 @@ pub record PackedFrom (l : List ℕ) (n rises marks letters : ℕ) : Type 0 wher
   pub few : letters ≤ 64
 
 module _ (l : List ℕ) where
-  pub packed_word_lem : (n rises marks letters : ℕ) → packed_of l ≡ packed.Word n rises marks letters
-      → PackedFrom l n rises marks letters
+  pub packed_word_lem : (p : Packed) → packed_of l ≡ Ok p → PackedFrom l p.n p.rises p.marks p.letters
   unfolding packed_of packed_by packed_word
-  packed_word_lem n rises marks letters e = go (judged_of l) refl e
+  packed_word_lem p e = go (judged_of l) refl e
     where
       w : Word
       w = word_of (record_parts l)
 
-      go : (j : Judged) → judged_of l ≡ j → packed_by l j ≡ packed.Word n rises marks letters → PackedFrom l n rises marks letters
-      go (judged.Sum s) g f =
-          let same : s ≡ n = cc in
-          let b = (judged_sum l n).0 (g ∙ ap judged.Sum same) in
-          let r : bits rise w ≡ rises = cc in
-          let m : bits mark w ≡ marks = cc in
-          let k : length w ≡ letters = cc in
+      go : (j : Result ℕ Refusal) → judged_of l ≡ j → packed_by l j ≡ Ok p → PackedFrom l p.n p.rises p.marks p.letters
+      go (Ok s) g f =
+          let is : packed_word s w ≡ p = cc in
+          let same : s ≡ p.n = ap (λ (q : Packed). q.n) is in
+          let b = (judged_sum l p.n).0 (g ∙ ap Ok same) in
+          let r : bits rise w ≡ p.rises = ap (λ (q : Packed). q.rises) is in
+          let m : bits mark w ≡ p.marks = ap (λ (q : Packed). q.marks) is in
+          let k : length w ≡ p.letters = ap (λ (q : Packed). q.letters) is in
           record {
             burned = b;
             rising = sym r;
             marking = sym m;
             word = rw (← r, ← m, ← k) (unpacked_word true w (word_reads (record_parts l)));
-            few = omega (arith, word_bound n 64 (record_parts l) b.chain b.fits);
+            few = omega (arith, word_bound p.n 64 (record_parts l) b.chain b.fits);
           }
-      go (judged.Refused r) g f = let z : ◌≡◌ {A = ℕ} 0 1 = cc in absurd (omega arith)
+      go (Err r) g f = let z : ◌≡◌ {A = ℕ} 0 1 = cc in absurd (omega arith)
 
   -- The refusal is the record's own.
-  pub packed_refused : (r : ℕ) → packed_of l ≡ packed.Refused r → judged_of l ≡ judged.Refused r
+  pub packed_refused : (r : Refusal) → packed_of l ≡ Err r → judged_of l ≡ Err r
   unfolding packed_of packed_by packed_word
   packed_refused r e = go (judged_of l) e
     where
-      go : (j : Judged) → packed_by l j ≡ packed.Refused r → j ≡ judged.Refused r
-      go (judged.Sum n) f = let z : ◌≡◌ {A = ℕ} 0 1 = cc in absurd (omega arith)
-      go (judged.Refused x) f = cc
+      go : (j : Result ℕ Refusal) → packed_by l j ≡ Err r → j ≡ Err r
+      go (Ok n) f = let z : ◌≡◌ {A = ℕ} 0 1 = cc in absurd (omega arith)
+      go (Err x) f = cc
 
 -- ---- what the answer says of letters
 
@@ -226,42 +226,42 @@ pub record LettersPacked (w : Word) (n rises marks letters : ℕ) : Type 0 where
 
 module _ (w : Word) where
   -- The answer by the two tests.
-  abbrev asked : Bool → Bool → Packed
-  asked g t = cond g (cond t (packed_word (total (chain_of w)) w) (packed.Refused 10)) (packed.Refused 7)
+  abbrev asked : Bool → Bool → Result Packed Refusal
+  asked g t = cond g (cond t (Ok (packed_word (total (chain_of w)) w)) (Err TooLarge)) (Err BadWord)
 
-  pub packed_letters_lem : (n rises marks letters : ℕ) → packed_letters w ≡ packed.Word n rises marks letters
-      → LettersPacked w n rises marks letters
+  pub packed_letters_lem : (p : Packed) → packed_letters w ≡ Ok p → LettersPacked w p.n p.rises p.marks p.letters
   unfolding packed_letters packed_word
-  packed_letters_lem n rises marks letters e = go (reads true w) (ltb (total (chain_of w)) (2 ^ 64)) refl refl e
+  packed_letters_lem p e = go (reads true w) (ltb (total (chain_of w)) (2 ^ 64)) refl refl e
     where
-      go : (g t : Bool) → reads true w ≡ g → ltb (total (chain_of w)) (2 ^ 64) ≡ t → asked g t ≡ packed.Word n rises marks letters
-          → LettersPacked w n rises marks letters
+      go : (g t : Bool) → reads true w ≡ g → ltb (total (chain_of w)) (2 ^ 64) ≡ t → asked g t ≡ Ok p
+          → LettersPacked w p.n p.rises p.marks p.letters
       go true true read low f =
           let good : T (reads true w) = rw read tt in
           let below : total (chain_of w) < 2 ^ 64 = ltb-true (total (chain_of w)) (2 ^ 64) low in
-          let same : n ≡ total (chain_of w) = cc in
+          let is : p ≡ packed_word (total (chain_of w)) w = cc in
+          let same : p.n ≡ total (chain_of w) = ap (λ (q : Packed). q.n) is in
           record {
             good = good;
             number = same;
             fits = omega arith;
-            rising = cc;
-            marking = cc;
-            long = cc;
+            rising = ap (λ (q : Packed). q.rises) is;
+            marking = ap (λ (q : Packed). q.marks) is;
+            long = ap (λ (q : Packed). q.letters) is;
             few = letters_few w good below;
           }
       go true false read low f = let z : ◌≡◌ {A = ℕ} 0 1 = cc in absurd (omega arith)
       go false t read low f = let z : ◌≡◌ {A = ℕ} 0 1 = cc in absurd (omega arith)
 
   -- A refusal is 7 for a word that is not good, or 10 for one that stands for 2^64 or more.
-  pub letters_refused : (r : ℕ) → packed_letters w ≡ packed.Refused r
-      → ((r ≡ 7) × (reads true w ≡ false)) ⊎ ((r ≡ 10) × (reads true w ≡ true) × (2 ^ 64 ≤ total (chain_of w)))
+  pub letters_refused : (r : Refusal) → packed_letters w ≡ Err r
+      → ((r ≡ BadWord) × (reads true w ≡ false)) ⊎ ((r ≡ TooLarge) × (reads true w ≡ true) × (2 ^ 64 ≤ total (chain_of w)))
   unfolding packed_letters packed_word
   letters_refused r e = go (reads true w) (ltb (total (chain_of w)) (2 ^ 64)) refl refl e
     where
-      go : (g t : Bool) → reads true w ≡ g → ltb (total (chain_of w)) (2 ^ 64) ≡ t → asked g t ≡ packed.Refused r
-          → ((r ≡ 7) × (reads true w ≡ false)) ⊎ ((r ≡ 10) × (reads true w ≡ true) × (2 ^ 64 ≤ total (chain_of w)))
+      go : (g t : Bool) → reads true w ≡ g → ltb (total (chain_of w)) (2 ^ 64) ≡ t → asked g t ≡ Err r
+          → ((r ≡ BadWord) × (reads true w ≡ false)) ⊎ ((r ≡ TooLarge) × (reads true w ≡ true) × (2 ^ 64 ≤ total (chain_of w)))
       go true true read low f = let z : ◌≡◌ {A = ℕ} 0 1 = cc in absurd (omega arith)
       go true false read low f =
-          let ten : r ≡ 10 = cc in
-          inr (ten, read, ltb-false (total (chain_of w)) (2 ^ 64) low)
-      go false t read low f = let seven : r ≡ 7 = cc in inl (seven, read)
+          let large : r ≡ TooLarge = cc in
+          inr (large, read, ltb-false (total (chain_of w)) (2 ^ 64) low)
+      go false t read low f = let bad : r ≡ BadWord = cc in inl (bad, read)

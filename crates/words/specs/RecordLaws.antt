@@ -1,6 +1,7 @@
 -- What a record gets, in the terms of 003: the sum exactly if its numbers name a chain of a number below 2^64.
 -- In order: the test of a pair and of the whole record says what 003's chain condition says; the numbers of a record are all in the
 -- part table; the theorem of record. The definitions are in Records.
+use Rattle.std.specs.Prelude.{Ok, Err}
 use Rattle.std.specs.Prelude.{◌≡◌, refl, ◌↔◌, Bool, true, false, cond, ◌&&◌, ◌||◌, not, List, [], ◌∷◌, ℕ, zero, suc, ◌*◌, ◌/◌, ◌%◌, ◌≤◌, ◌<◌, T, ltb, leb, eqb, length, get_or}
 use Rattle.std.proofs.Common.{ap, ◌∙◌, div-add-mod', mul-le-mul_right, lt_of_not-le, arith, ltb→lt, lt→ltb, eqb→eq, ltb-false, leb-false, le-ltb}
 use Rattle.std.proofs.Math.Logic.Iff
@@ -11,11 +12,11 @@ use Rattle.std.proofs.lemmas.Bool.{lt-leb}
 use Rattle.lent.specs.LentLaws.{neither}
 use Rattle.chains.specs.Chains.{Part, value, ProperMultiple, Chained, total}
 use Rattle.chains.proofs.Divides.{value_pos}
+use Rattle.refusals.specs.declared.Refusal.TheVariants.{UnknownPart, NotChained, TooLarge}
 use Rattle.parts.specs.Parts.{limit}
 use Rattle.words.specs.Records.{record_parts, beyond, chained_test, Burned, judged_of}
 unfoldable pub use Rattle.words.specs.Records.{InTable}
 use Rattle.words.specs.TestLaws.{both_tests}
-use Rattle.words.specs.declared.Judged.TheVariants.{Sum, Refused}
 
 -- ---- the chain condition
 
@@ -75,7 +76,7 @@ number_known l i e h = (in_table l).0 e i h
 -- How the three tests stand where the answer is a sum.
 tests_passed :
     (a b c : Bool) (t n : ℕ)
-    → cond a (Refused 8) (cond (not b) (Refused 9) (cond c (Refused 10) (Sum t))) ≡ Sum n
+    → cond a (Err UnknownPart) (cond (not b) (Err NotChained) (cond c (Err TooLarge) (Ok t))) ≡ Ok n
     → (a ≡ false) × (b ≡ true) × (c ≡ false) × (t ≡ n)
 tests_passed true b c t n e = let z : ◌≡◌ {A = ℕ} 0 1 = cc in absurd (omega arith)
 tests_passed false false c t n e = let z : ◌≡◌ {A = ℕ} 0 1 = cc in absurd (omega arith)
@@ -83,14 +84,14 @@ tests_passed false true true t n e = let z : ◌≡◌ {A = ℕ} 0 1 = cc in abs
 tests_passed false true false t n e = (refl, refl, refl, cc)
 
 -- A record gets its sum exactly if it names a chain of that number.
-pub judged_sum : (l : List ℕ) (n : ℕ) → (judged_of l ≡ Sum n) ↔ Burned l n
+pub judged_sum : (l : List ℕ) (n : ℕ) → (judged_of l ≡ Ok n) ↔ Burned l n
 unfolding judged_of
 judged_sum l n = (there, back)
   where
     c : List Part
     c = record_parts l
 
-    there : judged_of l ≡ Sum n → Burned l n
+    there : judged_of l ≡ Ok n → Burned l n
     there e =
         let (inside, chained, below, sums) =
         tests_passed (ltb 64 (length l) || beyond l) (chained_test c) (leb limit (total c)) (total c) n e in
@@ -102,7 +103,7 @@ judged_sum l n = (there, back)
           fits = omega (arith, leb-false limit (total c) below);
         }
 
-    back : Burned l n → judged_of l ≡ Sum n
+    back : Burned l n → judged_of l ≡ Ok n
     back b = rw (
       le-ltb 64 (length l) b.few,
       (in_table l).1 b.known,

@@ -1,11 +1,11 @@
 -- A burned record: part numbers, largest part first (document 01, 'Frames' and the refusals 8, 9, 10).
 -- In order: its parts; what a record must be in 003's terms; the tests, and what a record gets by them. Definitions only: that it
 -- gets its sum exactly if it is what it must be is in RecordLaws, which refusal it gets when is in Refusals.
-use Rattle.std.specs.Prelude.{Bool, true, false, cond, ◌&&◌, ◌||◌, not, List, [], ◌∷◌, map, ℕ, ◌%◌, ◌^◌, ◌≤◌, ◌<◌, ltb, leb, eqb, length, get_or}
+use Rattle.std.specs.Prelude.{Result, Ok, Err, Bool, true, false, cond, ◌&&◌, ◌||◌, not, List, [], ◌∷◌, map, ℕ, ◌%◌, ◌^◌, ◌≤◌, ◌<◌, ltb, leb, eqb, length, get_or}
 use Rattle.chains.specs.Chains.{Part, value, total, ChainOf}
+use Rattle.refusals.specs.declared.Refusal.{Refusal}
+use Rattle.refusals.specs.declared.Refusal.TheVariants.{UnknownPart, NotChained, TooLarge}
 use Rattle.parts.specs.Parts.{part_at, limit}
-use Rattle.words.specs.declared.Judged.{Judged}
-use Rattle.words.specs.declared.Judged.TheVariants.{Sum, Refused}
 
 -- The parts of a record.
 unfoldable pub record_parts : List ℕ → List Part
@@ -39,9 +39,9 @@ chained_test (p ∷ q ∷ c) = (ltb (value q) (value p) && eqb (value p % value 
 
 -- What a record gets: 8 for a number of 1,344 or more or above 64 parts, 9 for a part that is no proper multiple of the next, 10
 -- for a sum of 2^64 or more, each looked for in the whole record before the next; else the sum.
-unfoldable pub judged_of : List ℕ → Judged
+unfoldable pub judged_of : List ℕ → Result ℕ Refusal
 judged_of l =
-    cond (ltb 64 (length l) || beyond l) (Refused 8)
-    (cond (not (chained_test (record_parts l))) (Refused 9)
-    (cond (leb limit (total (record_parts l))) (Refused 10)
-    (Sum (total (record_parts l)))))
+    cond (ltb 64 (length l) || beyond l) (Err UnknownPart)
+    (cond (not (chained_test (record_parts l))) (Err NotChained)
+    (cond (leb limit (total (record_parts l))) (Err TooLarge)
+    (Ok (total (record_parts l)))))

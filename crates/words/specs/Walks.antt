@@ -1,5 +1,6 @@
 -- What the writer of a word's letters keeps on its way, and the packer of its bits too; and the points of a word in two numbers.
 -- Only private functions cite these definitions; what the services answer and leave behind is in Conversions and Packed.
+use Rattle.std.specs.Prelude.{Ok}
 use Rattle.std.specs.Prelude.{◌≡◌, ◌≢◌, false, List, ◌∷◌, ◌++◌, ℕ, ◌+◌, ◌-◌, ◌*◌, ◌%◌, ◌^◌, ◌≤◌, ◌<◌, length, get_or, take, drop}
 use Rattle.std.specs.Int.Count.{ones}
 use Rattle.chains.specs.Chains.{Part, Chained, total}
@@ -7,7 +8,6 @@ use Rattle.parts.specs.Parts.{part_at}
 use Rattle.parts.specs.Codes.{codes, powers}
 use Rattle.parts.specs.declared.Exponents.{Exponents}
 use Rattle.words.specs.Records.{record_parts, beyond, Burned, judged_of}
-use Rattle.words.specs.declared.Judged.TheVariants.{Sum}
 
 -- ---- from a record to its word
 
@@ -67,7 +67,7 @@ pub record Joins (q p : Part) (part rises marks : ℕ) : Type 0 where
 
 -- A record that gets no sum.
 abbrev pub NoSum : List ℕ → Type 0
-NoSum l = (n : ℕ) → judged_of l ≢ Sum n
+NoSum l = (n : ℕ) → judged_of l ≢ Ok n
 
 -- Where packing a record l starts: the tables are those of the codes and of the powers of 3, and p is the record's largest part.
 pub record Begun (table threes l : List ℕ) (p : Part) : Type 0 where

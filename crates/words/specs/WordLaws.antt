@@ -1,6 +1,7 @@
 -- Records, chains and words lead to each other, for 003's chains and for the services' own answers.
 -- In order: a record written as a word, and a good word taken apart; a chain of n below 2^64, its record and its word. The answers
 -- are defined in Records and Conversions.
+use Rattle.std.specs.Prelude.{Ok}
 use Rattle.std.specs.Prelude.{◌≡◌, false, List, [], ◌∷◌, map, ℕ, ◌^◌, ◌≤◌, ◌<◌, T, length}
 use Rattle.std.proofs.Math.Path.{refl, ap}
 use Rattle.std.proofs.Common.{ap₂}
@@ -18,10 +19,7 @@ use Rattle.parts.proofs.Numbers.{parts_complete, part_of_number, number_of_part}
 use Rattle.lent.specs.Lent.{filled}
 use Rattle.words.specs.Records.{record_parts, beyond, judged_of}
 use Rattle.words.specs.RecordLaws.{in_table, known_cons, judged_sum}
-use Rattle.words.specs.Conversions.{letters_of, written_of, letters_left, parted_of, numbers_left}
-use Rattle.words.specs.declared.Judged.TheVariants as judged
-use Rattle.words.specs.declared.Written.TheVariants as written
-use Rattle.words.specs.declared.Parted.TheVariants as parted
+use Rattle.words.specs.Conversions.{letters_of, written_of, letters_left, chain_summed, parted_of, numbers_left}
 
 -- ---- parts and numbers, for a whole chain and a whole record
 
@@ -57,22 +55,22 @@ numbers_of_parts (i ∷ l) e =
 
 module _ (entry : List ℕ) (room : 64 ≤ length entry) where
   -- A record that gets its sum is written as the word of its parts.
-  record_written : (l : List ℕ) (n : ℕ) → judged_of l ≡ judged.Sum n
-      → (written_of l (length entry) ≡ written.Letters (length (word_of (record_parts l))))
+  record_written : (l : List ℕ) (n : ℕ) → judged_of l ≡ Ok n
+      → (written_of l (length entry) ≡ Ok (length (word_of (record_parts l))))
       × (letters_left l entry (written_of l (length entry)) ≡ filled 64 (word_of (record_parts l)) entry)
   unfolding written_of letters_of letters_left
   record_written l n e =
-      let told : written_of l (length entry) ≡ written.Letters (length (word_of (record_parts l))) =
+      let told : written_of l (length entry) ≡ Ok (length (word_of (record_parts l))) =
       rw (written_of, le-ltb (length entry) 64 room, e) refl in
       (told, ap (λ x. letters_left l entry x) told)
 
   -- A good word below 2^64 is taken apart into the numbers of its chain.
   pub word_parted : (w : Word) → T (reads true w) → total (chain_of w) < 2 ^ 64
-      → (parted_of w (length entry) ≡ parted.Chain (total (chain_of w)) (length (chain_of w)))
+      → (parted_of w (length entry) ≡ Ok (chain_summed w))
       × (numbers_left w entry (parted_of w (length entry)) ≡ filled 64 (map part_number (chain_of w)) entry)
   unfolding parted_of numbers_left
   word_parted w g h =
-      let told : parted_of w (length entry) ≡ parted.Chain (total (chain_of w)) (length (chain_of w)) =
+      let told : parted_of w (length entry) ≡ Ok (chain_summed w) =
       rw (parted_of, le-ltb (length entry) 64 room, is_true (reads true w) g, lt-ltb (total (chain_of w)) (2 ^ 64) h) refl in
       (told, ap (λ x. numbers_left w entry x) told)
 
@@ -83,7 +81,7 @@ module _ (n : ℕ) (c : List Part) (chain : ChainOf n c) (fits : n < 2 ^ 64) whe
   summed = omega (arith, chain.sums)
 
   -- Its record gets its sum.
-  pub chain_judged : judged_of (map part_number c) ≡ judged.Sum n
+  pub chain_judged : judged_of (map part_number c) ≡ Ok n
   chain_judged =
       (judged_sum (map part_number c) n).1
       (record {
@@ -96,14 +94,15 @@ module _ (n : ℕ) (c : List Part) (chain : ChainOf n c) (fits : n < 2 ^ 64) whe
   module _ (entry : List ℕ) (room : 64 ≤ length entry) where
     -- Its record is written as its word.
     pub chain_written :
-        (written_of (map part_number c) (length entry) ≡ written.Letters (length (word_of c)))
+        (written_of (map part_number c) (length entry) ≡ Ok (length (word_of c)))
         × (letters_left (map part_number c) entry (written_of (map part_number c) (length entry)) ≡ filled 64 (word_of c) entry)
     chain_written = rw (parts_of_numbers c summed) at (record_written entry room (map part_number c) n chain_judged)
 
     -- Its word is taken apart into its record.
     pub chain_parted :
-        (parted_of (word_of c) (length entry) ≡ parted.Chain n (length c))
+        (parted_of (word_of c) (length entry) ≡ Ok (record { n = n; k = length c }))
         × (numbers_left (word_of c) entry (parted_of (word_of c) (length entry)) ≡ filled 64 (map part_number c) entry)
+    unfolding chain_summed
     chain_parted =
         let back : chain_of (word_of c) ≡ c = chain_word_chain c chain.chained in
         rw (back, chain.sums) at (word_parted entry room (word_of c) (word_reads c) (rw back summed))

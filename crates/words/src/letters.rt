@@ -6,20 +6,8 @@ ghost use Rattle.lent.specs.Lent.{filled};
 ghost use Rattle.words.specs.Records.{record_parts};
 ghost use Rattle.words.specs.Walks.{point, place, between, OnTheWay, WayBack, Writable};
 
-use super::entries;
+use super::entries::Table;
 use parts::Exponents;
-
-// The value v in the places from `from` up to `to`.
-fn fill(places: &mut [u8], from: usize, to: usize, v: u8)
-    requires { (from ≤ to) × (to ≤ length places.old) }
-    ensures { places.new ≡ between from to (replicate (to - from) v) places.old }
-{
-    let mut i = from;
-    while i < to {
-        places[i] = v;
-        i += 1;
-    }
-}
 
 // The letters from the point q up to p, none of them a part: b rises before a.
 fn write_path(places: &mut [u8], q: Exponents, p: Exponents)
@@ -30,8 +18,8 @@ fn write_path(places: &mut [u8], q: Exponents, p: Exponents)
     let from = (q.a + q.b) as usize;
     let turn = (q.a + p.b) as usize;
     let to = (p.a + p.b) as usize;
-    fill(places, from, turn, 2);
-    fill(places, turn, to, 0);
+    places[from..turn].fill(2);
+    places[turn..to].fill(0);
 }
 
 // The same letters where q is a part.
@@ -46,37 +34,35 @@ fn write_marked(places: &mut [u8], q: Exponents, p: Exponents)
 }
 
 // The letters before that of the largest part, from each part back to the next and from the last one to (0, 0).
-fn write_back(table: &[u16], numbers: &[u16], largest: Exponents, places: &mut [u8])
-    requires { WayBack table.now numbers.now 1 (point largest) (length places.old) }
+fn write_back(table: Table<'_>, numbers: &[u16], largest: Exponents, places: &mut [u8])
+    requires { WayBack table.codes.now numbers.now 1 (point largest) (length places.old) }
     ensures { places.new
         ≡ walk (point largest) (record_parts (drop 1 numbers.now))
         (drop (place (point largest)) places.old) }
 {
     let mut p = largest;
-    let mut i = 1;
-    while i < numbers.len() {
-        let q = entries::part_of(table, numbers[i]);
+    for i in 1..numbers.len() {
+        let q = table.part_of(numbers[i]);
         write_marked(places, q, p);
         p = q;
-        i += 1;
     }
     write_path(places, Exponents { a: 0, b: 0 }, p);
 }
 
 // The letters of a record's word, then zeros up to 64. Tells how many letters there are.
-pub fn write_letters(table: &[u16], numbers: &[u16], places: &mut [u8]) -> u64
-    requires { Writable table.now numbers.now (length places.old) }
+pub fn write_letters(table: Table<'_>, numbers: &[u16], places: &mut [u8]) -> u64
+    requires { Writable table.codes.now numbers.now (length places.old) }
     ensures value { result ≡ length (word_of (record_parts numbers.now)) }
     ensures places_after { places.new ≡ filled 64 (word_of (record_parts numbers.now)) places.old }
 {
     if numbers.len() == 0 {
-        fill(places, 0, 64, 0);
+        places[0..64].fill(0);
         return 0;
     }
-    let largest = entries::part_of(table, numbers[0]);
+    let largest = table.part_of(numbers[0]);
     let last = (largest.a + largest.b) as usize;
     places[last] = 3;
-    fill(places, last + 1, 64, 0);
+    places[last + 1..64].fill(0);
     write_back(table, numbers, largest, places);
     (last + 1) as u64
 }

@@ -16,46 +16,31 @@ ghost use Rattle.words.specs.Records.{judged_of};
 ghost use Rattle.words.specs.Conversions.{written_of, letters_left, parted_of, numbers_left};
 ghost use Rattle.words.specs.Packed.{packed_of, packed_letters, packed_chain, parts_left};
 
-// The number that a word stands for, or that it is 2^64 or more.
-#[derive(Drop)]
-pub enum Weighed {
-    Number(u64),
-    Over,
+use entries::Table;
+use refusals::Refusal;
+
+// The letters of a word in two numbers. Each letter has a bit in either number, the first letter the lowest. A bit of `rises` is 1
+// where the letter is 2 or 3, a bit of `marks` where it is 1 or 3.
+#[derive(Clone, Copy)]
+pub struct Bits {
+    pub rises: u64,
+    pub marks: u64,
 }
 
-// The sum of a record's parts, or document 01's number of a refusal.
-#[derive(Drop)]
-pub enum Judged {
-    Sum(u64),
-    Refused(u8),
+// The same, with the number n that the word's parts sum to and how many letters it has.
+#[derive(Clone, Copy)]
+pub struct Packed {
+    pub n: u64,
+    pub rises: u64,
+    pub marks: u64,
+    pub letters: u64,
 }
 
-// How many letters a record's word has, or document 01's number of a refusal.
-#[derive(Drop)]
-pub enum Written {
-    Letters(u64),
-    Refused(u8),
-}
-
-// A word in two numbers, with the number n that its parts sum to and how many letters it has; or document 01's number of a refusal.
-// Each letter has a bit in either number, the first letter the lowest. A bit of `rises` is 1 where the letter is 2 or 3, a bit of
-// `marks` where it is 1 or 3.
-#[derive(Drop)]
-pub enum Packed {
-    Word {
-        n: u64,
-        rises: u64,
-        marks: u64,
-        letters: u64,
-    },
-    Refused(u8),
-}
-
-// The number that a word's chain sums to and how many parts it has, or document 01's number of a refusal.
-#[derive(Drop)]
-pub enum Parted {
-    Chain { n: u64, k: u64 },
-    Refused(u8),
+// The number that a word's chain sums to and how many parts it has.
+#[derive(Clone, Copy)]
+pub struct Parted {
+    pub n: u64,
+    pub k: u64,
 }
 
 // Whether a word is good.
@@ -66,68 +51,62 @@ pub fn is_good(letters: &[u8]) -> bool
     readers::after_b(&letters, left) == 1
 }
 
-// The number that a word stands for, or that it is 2^64 or more. Any bytes will do: one above 3 marks no part and moves to no
+// The number that a word stands for; none where it is 2^64 or more. Any bytes will do: one above 3 marks no part and moves to no
 // point.
-pub fn weigh(letters: &[u8]) -> Weighed
+pub fn weigh(letters: &[u8]) -> Option<u64>
     ensures { result ≡ weighed_of letters.now }
 {
     let mut n: u64 = 0;
-    let mut i = letters.len();
-    while 0 < i {
-        i -= 1;
-        let Weighed::Number(more) = weights::with_letter(letters[i], n) else {
-            return Weighed::Over;
-        };
-        n = more;
+    for i in (0..letters.len()).rev() {
+        n = weights::with_letter(letters[i], n)?;
     }
-    Weighed::Number(n)
+    Some(n)
 }
 
 // The sum of a record's parts, or refusal 8, 9 or 10.
-pub fn judge_record(numbers: &[u16]) -> Judged
+pub fn judge_record(numbers: &[u16]) -> Result<u64, Refusal>
     ensures { result ≡ judged_of numbers.now }
 {
-    let table = parts::codes::copy();
-    records::judge(&table, numbers)
+    let codes = parts::codes::copy();
+    let table = Table { codes: &codes };
+    records::judge(table, numbers)
 }
 
 // The word of a record: its letters, then zeros up to 64, later places untouched. Told are the number of letters, or refusal 1 for
 // fewer than 64 places, or what the record gets; with a refusal nothing is written.
-pub fn write_word(numbers: &[u16], places: &mut [u8]) -> Written
+pub fn write_word(numbers: &[u16], places: &mut [u8]) -> Result<u64, Refusal>
     ensures answer { result ≡ written_of numbers.now (length places.old) }
     ensures places { places.new
         ≡ letters_left numbers.now places.old
         (written_of numbers.now (length places.old)) }
 {
     if places.len() < 64 {
-        return Written::Refused(1);
+        return Err(Refusal::LittleLent);
     }
-    let table = parts::codes::copy();
-    match records::judge(&table, numbers) {
-        Judged::Sum(_) => Written::Letters(letters::write_letters(&table, numbers, places)),
-        Judged::Refused(number) => Written::Refused(number),
-    }
+    let codes = parts::codes::copy();
+    let table = Table { codes: &codes };
+    records::judge(table, numbers)?;
+    Ok(letters::write_letters(table, numbers, places))
 }
 
 // The word of a record in two numbers, or refusal 8, 9 or 10. Nothing is lent for it.
-pub fn pack_word(numbers: &[u16]) -> Packed
+pub fn pack_word(numbers: &[u16]) -> Result<Packed, Refusal>
     ensures { result ≡ packed_of numbers.now }
 {
-    let table = parts::codes::copy();
-    packing::pack(&table, numbers)
+    let codes = parts::codes::copy();
+    let table = Table { codes: &codes };
+    packing::pack(table, numbers)
 }
 
 // A word in two numbers, or refusal 7 or 10. Nothing is lent for it.
-pub fn pack_letters(letters: &[u8]) -> Packed
+pub fn pack_letters(letters: &[u8]) -> Result<Packed, Refusal>
     ensures { result ≡ packed_letters letters.now }
 {
     if !is_good(letters) {
-        return Packed::Refused(7);
+        return Err(Refusal::BadWord);
     }
-    let Weighed::Number(n) = weigh(letters) else {
-        return Packed::Refused(10);
-    };
-    packing::pack_all(letters, n)
+    let n = weigh(letters).ok_or(Refusal::TooLarge)?;
+    Ok(packing::pack_all(letters, n))
 }
 
 // The parts of the word that two numbers hold, by their numbers, largest part first. The first 64 places hold the numbers and then
@@ -136,7 +115,7 @@ pub fn put_parts(rises: u64, marks: u64, places: &mut [u16]) -> u64
     ensures answer { result ≡ length (packed_chain rises marks) }
     ensures places { places.new ≡ parts_left rises marks places.old }
 {
-    let k = u64::count_ones(marks) as u64;
+    let k = u64::from(marks.count_ones());
     if places.len() < 64 {
         return k;
     }
@@ -146,25 +125,16 @@ pub fn put_parts(rises: u64, marks: u64, places: &mut [u16]) -> u64
 
 // The parts of a word by their numbers, largest part first: the number that the parts sum to and how many they are, or refusal 1, 7
 // or 10. The first 64 places hold the numbers and then zeros; with a refusal nothing is touched.
-pub fn word_parts(letters: &[u8], places: &mut [u16]) -> Parted
+pub fn word_parts(letters: &[u8], places: &mut [u16]) -> Result<Parted, Refusal>
     ensures answer { result ≡ parted_of letters.now (length places.old) }
     ensures places { places.new
         ≡ numbers_left letters.now places.old
         (parted_of letters.now (length places.old)) }
 {
     if places.len() < 64 {
-        return Parted::Refused(1);
+        return Err(Refusal::LittleLent);
     }
-    match pack_letters(letters) {
-        Packed::Word {
-            n,
-            rises,
-            marks,
-            letters: _,
-        } => {
-            let k = put_parts(rises, marks, places);
-            Parted::Chain { n, k }
-        }
-        Packed::Refused(number) => Parted::Refused(number),
-    }
+    let word = pack_letters(letters)?;
+    let k = put_parts(word.rises, word.marks, places);
+    Ok(Parted { n: word.n, k })
 }

@@ -2,19 +2,13 @@
 // largest part back, as the letters are written (letters.rt), but no place is written. The bits of a word that is given by its
 // letters are put together from the last letter back.
 ghost use Rattle.std.specs.Prelude.{◌↔◌, ◌≡◌, true, ◌^◌, ◌≤◌, ◌<◌};
-ghost use Rattle.parts.specs.Codes.{codes};
 ghost use Rattle.words.specs.Packed.{bits, rise, mark, packed_word, packed_of};
 ghost use Rattle.words.specs.Walks.{point, Begun, Joins, rises_from, marks_from};
 
-use super::{Packed, entries, records};
+use super::entries::{Table, Threes};
+use super::{Bits, Packed, records};
 use parts::Exponents;
-
-// The two numbers of some letters.
-#[derive(Drop)]
-struct Bits {
-    rises: u64,
-    marks: u64,
-}
+use refusals::Refusal;
 
 // The letters from the point q up to p before those of `later`. `part` is 1 where q is a part.
 fn with_path(later: Bits, q: Exponents, p: Exponents, part: u64) -> Bits
@@ -43,62 +37,64 @@ fn is_within(q: Exponents, p: Exponents) -> bool
 // The word of a record from its largest part back, and whether it has one, in one pass: from each part to the next, and from the last
 // one to (0, 0). The numbers must descend, so all are in the table and no two are the same. Where the pass finds a refusal, the whole
 // record is looked at again for the one that comes first.
-fn pack_back(table: &[u16], threes: &[u64], numbers: &[u16], largest: Exponents) -> Packed
-    requires { Begun table.now threes.now numbers.now (point largest) }
+fn pack_back(
+    table: Table<'_>,
+    threes: Threes<'_>,
+    numbers: &[u16],
+    largest: Exponents,
+) -> Result<Packed, Refusal>
+    requires { Begun table.codes.now threes.powers.now numbers.now (point largest) }
     ensures { result ≡ packed_of numbers.now }
 {
     let mut found = Bits { rises: 1, marks: 1 };
-    let mut n = entries::value_at(threes, largest);
+    let mut n = threes.value_at(largest);
     let mut p = largest;
     let mut last = numbers[0];
-    let mut i = 1;
-    while i < numbers.len() {
+    for i in 1..numbers.len() {
         let number = numbers[i];
         if last <= number {
-            return Packed::Refused(records::refusal(table, numbers));
+            return Err(records::refusal(table, numbers));
         }
-        let q = entries::part_of(table, number);
+        let q = table.part_of(number);
         if !is_within(q, p) {
-            return Packed::Refused(records::refusal(table, numbers));
+            return Err(records::refusal(table, numbers));
         }
-        let v = entries::value_at(threes, q);
-        if u64::MAX - n < v {
-            return Packed::Refused(records::refusal(table, numbers));
-        }
-        n += v;
+        let Some(sum) = n.checked_add(threes.value_at(q)) else {
+            return Err(records::refusal(table, numbers));
+        };
+        n = sum;
         found = with_path(found, q, p, 1);
         p = q;
         last = number;
-        i += 1;
     }
     let whole = with_path(found, Exponents { a: 0, b: 0 }, p, 0);
-    Packed::Word {
+    Ok(Packed {
         n,
         rises: whole.rises,
         marks: whole.marks,
         letters: largest.a + largest.b + 1,
-    }
+    })
 }
 
 // The word of a record, or refusal 8, 9 or 10.
-pub fn pack(table: &[u16], numbers: &[u16]) -> Packed
-    requires { table.now ≡ codes }
+pub fn pack(table: Table<'_>, numbers: &[u16]) -> Result<Packed, Refusal>
     ensures { result ≡ packed_of numbers.now }
 {
     if numbers.len() == 0 {
-        return Packed::Word {
+        return Ok(Packed {
             n: 0,
             rises: 0,
             marks: 0,
             letters: 0,
-        };
+        });
     }
     if 1344 <= numbers[0] {
-        return Packed::Refused(8);
+        return Err(Refusal::UnknownPart);
     }
-    let threes = parts::codes::powers();
-    let largest = entries::part_of(table, numbers[0]);
-    pack_back(table, &threes, numbers, largest)
+    let powers = parts::codes::powers();
+    let threes = Threes { powers: &powers };
+    let largest = table.part_of(numbers[0]);
+    pack_back(table, threes, numbers, largest)
 }
 
 // The word that is given by its letters and stands for n. A letter of 0 to 3 tells its two bits by arithmetic alone, so no step
@@ -109,14 +105,12 @@ pub fn pack_all(letters: &[u8], n: u64) -> Packed
 {
     let mut rises: u64 = 0;
     let mut marks: u64 = 0;
-    let mut i = letters.len();
-    while 0 < i {
-        i -= 1;
+    for i in (0..letters.len()).rev() {
         let letter = letters[i];
-        rises = 2 * rises + (letter / 2) as u64;
-        marks = 2 * marks + (letter % 2) as u64;
+        rises = 2 * rises + u64::from(letter / 2);
+        marks = 2 * marks + u64::from(letter % 2);
     }
-    Packed::Word {
+    Packed {
         n,
         rises,
         marks,

@@ -3,14 +3,13 @@
 ghost use Rattle.std.specs.Prelude.{◌↔◌, ◌≡◌, true, false, ◌||◌, ltb, length};
 ghost use Rattle.chains.specs.Chains.{total};
 ghost use Rattle.chains.specs.Divides.{Above};
-ghost use Rattle.parts.specs.Codes.{codes, powers};
 ghost use Rattle.parts.specs.Parts.{sum_of};
 ghost use Rattle.words.specs.Records.{record_parts, beyond, chained_test, judged_of};
-ghost use Rattle.words.specs.declared.Judged.TheVariants.{Refused};
 ghost use Rattle.words.specs.Walks.{point, NoSum};
 
-use super::{Judged, entries};
-use parts::{Exponents, Sum};
+use super::entries::{Table, Threes, value_of};
+use parts::Exponents;
+use refusals::Refusal;
 
 // Whether there are more than 64 part numbers, or one of 1,344 or more.
 pub fn is_outside(numbers: &[u16]) -> bool
@@ -19,12 +18,10 @@ pub fn is_outside(numbers: &[u16]) -> bool
     if 64 < numbers.len() {
         return true;
     }
-    let mut i = 0;
-    while i < numbers.len() {
-        if 1344 <= numbers[i] {
+    for number in numbers {
+        if 1344 <= *number {
             return true;
         }
-        i += 1;
     }
     false
 }
@@ -43,68 +40,57 @@ fn is_above(p: Exponents, q: Exponents) -> bool
 }
 
 // Whether each part is a proper multiple of the next.
-pub fn is_chained(table: &[u16], numbers: &[u16]) -> bool
-    requires { (table.now ≡ codes) × (beyond numbers.now ≡ false) }
+pub fn is_chained(table: Table<'_>, numbers: &[u16]) -> bool
+    requires { beyond numbers.now ≡ false }
     ensures { result ≡ chained_test (record_parts numbers.now) }
 {
-    let mut i = 1;
-    while i < numbers.len() {
-        let p = entries::part_of(table, numbers[i - 1]);
-        let q = entries::part_of(table, numbers[i]);
+    for i in 1..numbers.len() {
+        let p = table.part_of(numbers[i - 1]);
+        let q = table.part_of(numbers[i]);
         if !is_above(p, q) {
             return false;
         }
-        i += 1;
     }
     true
 }
 
-// The sum of the parts, or that it is 2^64 or more.
-fn sum_of(table: &[u16], threes: &[u64], numbers: &[u16]) -> Sum
-    requires { (table.now ≡ codes) × (threes.now ≡ powers) × (beyond numbers.now ≡ false) }
+// The sum of the parts; none where it is 2^64 or more.
+fn sum_of(table: Table<'_>, threes: Threes<'_>, numbers: &[u16]) -> Option<u64>
+    requires { beyond numbers.now ≡ false }
     ensures { result ≡ sum_of (total (record_parts numbers.now)) }
 {
     let mut sum: u64 = 0;
-    let mut i = 0;
-    while i < numbers.len() {
-        let v = entries::value_of(table, threes, numbers[i]);
-        if u64::MAX - sum < v {
-            return Sum::Over;
-        }
-        sum += v;
-        i += 1;
+    for number in numbers {
+        sum = sum.checked_add(value_of(table, threes, *number))?;
     }
-    Sum::Fits(sum)
+    Some(sum)
 }
 
 // The refusal of a record that gets no sum.
-pub fn refusal(table: &[u16], numbers: &[u16]) -> u8
-    requires { (table.now ≡ codes) × NoSum numbers.now }
-    ensures { Refused result ≡ judged_of numbers.now }
+pub fn refusal(table: Table<'_>, numbers: &[u16]) -> Refusal
+    requires { NoSum numbers.now }
+    ensures { Err result ≡ judged_of numbers.now }
 {
     if is_outside(numbers) {
-        return 8;
+        return Refusal::UnknownPart;
     }
     if !is_chained(table, numbers) {
-        return 9;
+        return Refusal::NotChained;
     }
-    10
+    Refusal::TooLarge
 }
 
 // What a record gets: a refusal, or the sum of its parts.
-pub fn judge(table: &[u16], numbers: &[u16]) -> Judged
-    requires { table.now ≡ codes }
+pub fn judge(table: Table<'_>, numbers: &[u16]) -> Result<u64, Refusal>
     ensures { result ≡ judged_of numbers.now }
 {
     if is_outside(numbers) {
-        return Judged::Refused(8);
+        return Err(Refusal::UnknownPart);
     }
     if !is_chained(table, numbers) {
-        return Judged::Refused(9);
+        return Err(Refusal::NotChained);
     }
-    let threes = parts::codes::powers();
-    match sum_of(table, &threes, numbers) {
-        Sum::Fits(n) => Judged::Sum(n),
-        Sum::Over => Judged::Refused(10),
-    }
+    let powers = parts::codes::powers();
+    let threes = Threes { powers: &powers };
+    sum_of(table, threes, numbers).ok_or(Refusal::TooLarge)
 }

@@ -14,7 +14,7 @@ fn number_at(rises: u64, i: u32) -> u16
     ensures { result ≡ part_number (point_at rises i) }
 {
     let bit = 1 << i;
-    let b = u64::count_ones(rises & (bit - 1));
+    let b = (rises & (bit - 1)).count_ones();
     let a = i - b;
     parts::part_number(a as u64, b as u64)
 }
@@ -26,12 +26,10 @@ fn store_numbers(rises: u64, marks: u64, places: &mut [u16])
         ≡ map part_number (packed_chain rises marks) ++ drop (length (packed_chain rises marks)) places.old }
 {
     let mut left = marks;
-    let mut k: usize = 0;
-    while 0 < left {
-        let i = 63 - u64::leading_zeros(left);
+    for k in 0..marks.count_ones() as usize {
+        let i = 63 - left.leading_zeros();
         places[k] = number_at(rises, i);
         left -= 1 << i;
-        k += 1;
     }
 }
 
@@ -40,6 +38,6 @@ pub fn fill_places(rises: u64, marks: u64, places: &mut [u16])
     requires { 64 ≤ length places.old }
     ensures { places.new ≡ filled 64 (map part_number (packed_chain rises marks)) places.old }
 {
-    lent::clear_u16(&mut places[0..64]);
+    places[0..64].fill(0);
     store_numbers(rises, marks, places);
 }

@@ -7,8 +7,6 @@ ghost use Rattle.chains.specs.Chains.{total};
 ghost use Rattle.chains.specs.Words.{Word, chain_of};
 ghost use Rattle.words.specs.Answers.{sized, weighed_of};
 
-use super::Weighed;
-
 // (2^64 - 1) / 2 and (2^64 - 1) / 3.
 const HALF: u64 = 9223372036854775807;
 
@@ -22,24 +20,24 @@ fn largest(up: u64, r: u64) -> u64
     if up == 0 { HALF } else { THIRD - r }
 }
 
-// Twice n, or three times where `up` is 1, and r more; or that it is 2^64 or more.
-fn scaled(n: u64, up: u64, r: u64) -> Weighed
+// Twice n, or three times where `up` is 1, and r more; none where it is 2^64 or more.
+fn scaled(n: u64, up: u64, r: u64) -> Option<u64>
     requires { (up ≤ 1) × (r ≤ 1) }
     ensures { result ≡ sized (r + (2 + up) * n) }
 {
     if largest(up, r) < n {
-        return Weighed::Over;
+        return None;
     }
-    Weighed::Number(2 * n + up * n + r)
+    Some(2 * n + up * n + r)
 }
 
 // What a letter before a word that stands for n makes of it: twice or three times as much, and one more for a part. A byte above 3
 // changes nothing.
-pub fn with_letter(letter: u8, n: u64) -> Weighed
+pub fn with_letter(letter: u8, n: u64) -> Option<u64>
     ensures { (w : Word) → total (chain_of w) ≡ n → result ≡ weighed_of (letter ∷ w) }
 {
     if letter > 3 {
-        return Weighed::Number(n);
+        return Some(n);
     }
-    scaled(n, (letter / 2) as u64, (letter % 2) as u64)
+    scaled(n, u64::from(letter / 2), u64::from(letter % 2))
 }

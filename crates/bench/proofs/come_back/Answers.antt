@@ -1,35 +1,33 @@
 -- The state of the name is copied over the present one.
+use Rattle.std.proofs.Common.{arith}
+use Rattle.std.proofs.lemmas.Result.{err_from_is_err_and}
 use Rattle.bench.specs.Sound.{saved_in}
-use Rattle.bench.proofs.BenchLaws.{back_little, back_lost, back_refused, back_never, back_done, back_as, told_refused}
-use Rattle.bench.proofs.BenchLaws.{told_left}
+use Rattle.bench.proofs.BenchLaws.{back_unready, back_refused, back_never, back_done, back_as, passing, refusing, leaving}
+use Rattle.bench.proofs.StateLaws.{first_copied}
 use Rattle.bench.proofs.come_back.Goals as goal
 
-pub returns-then-bench-lt-BENCH : goal.returns-then-bench-lt-BENCH
-returns-then-bench-lt-BENCH c =
-    let told = (told_refused _ 1 _ (back_little _ _ c.if-bench-lt-BENCH.true)) in
-    record { answer = told.0; bench = told.1 }
+pub returns-in_err-look : goal.returns-in_err-look
+returns-in_err-look c =
+    passing _ _ (err_from_is_err_and _ c.from_residual.ensures.1) (back_unready _ _ _ c.in_err-look.ensures)
 
-pub returns-then-not-is_sound : goal.returns-then-not-is_sound
-returns-then-not-is_sound c =
-    let told = (told_refused _ 17 _ (back_lost _ _ c.if-bench-lt-BENCH.false (c.is_sound.ensures.no c.if-not-is_sound.true))) in
-    record { answer = told.0; bench = told.1 }
-
-pub returns-then-name-gt7 : goal.returns-then-name-gt7
-returns-then-name-gt7 c =
-    let told = (told_refused _ 18 _ (back_refused _ _ c.if-bench-lt-BENCH.false (c.is_sound.ensures.yes c.if-not-is_sound.false) c.if-name-gt7.true)) in
-    record { answer = told.0; bench = told.1 }
+pub returns-in_err-i : goal.returns-in_err-i
+returns-in_err-i c =
+    let sound = c.in_ok-look.ensures in
+    let i = c.in_err-i.ensures in
+    passing _ _ (err_from_is_err_and _ c.from_residual-in_err-i.ensures.1) (rw i.0 (back_refused _ _ sound.0 sound.1 i.1))
 
 pub returns-then-bench-i-eq0 : goal.returns-then-bench-i-eq0
 unfolding saved_in
 returns-then-bench-i-eq0 c =
-    let told = (told_refused _ 18 _
-    (back_never _ _ c.if-bench-lt-BENCH.false (c.is_sound.ensures.yes c.if-not-is_sound.false) c.if-name-gt7.false c.if-bench-i-eq0.true)) in
-    record { answer = told.0; bench = told.1 }
+    let sound = c.in_ok-look.ensures in
+    let i = c.in_ok-i.ensures in
+    refusing _ _ _ (back_never _ _ sound.0 sound.1 i.1 (rw i.0 at c.if-bench-i-eq0.true))
 
 pub returns : goal.returns
 unfolding saved_in
 returns c =
-    let told = (told_left _ _ _ _
-    (back_done _ _ c.if-bench-lt-BENCH.false (c.is_sound.ensures.yes c.if-not-is_sound.false) c.if-name-gt7.false c.if-bench-i-eq0.false)
-    (back_as _ _ _ c.copy_state.ensures)) in
-    record { answer = told.0; bench = told.1 }
+    let sound = c.in_ok-look.ensures in
+    let i = c.in_ok-i.ensures in
+    let first = rw c.unwrap.ensures at c.first_chunk_mut.ensures.cases in
+    let copied = first_copied c.args.bench.now (omega (arith, i.0, i.1)) (omega arith) first.same c.copy_state.ensures in
+    leaving _ _ (back_done _ _ sound.0 sound.1 i.1 (rw i.0 at c.if-bench-i-eq0.false)) (back_as _ _ _ (rw i.0 at copied))

@@ -1,25 +1,24 @@
 -- The present state is copied over the state of the name, and the name counts as saved.
-use Rattle.bench.proofs.BenchLaws.{save_little, save_lost, save_refused, save_done, saved_as, told_refused, told_left}
+use Rattle.std.proofs.Common.{arith}
+use Rattle.std.proofs.lemmas.Result.{err_from_is_err_and}
+use Rattle.bench.proofs.BenchLaws.{save_unready, save_refused, save_done, saved_as, passing, leaving}
+use Rattle.bench.proofs.StateLaws.{first_copied}
 use Rattle.bench.proofs.save_chain.Goals as goal
 
-pub returns-then-bench-lt-BENCH : goal.returns-then-bench-lt-BENCH
-returns-then-bench-lt-BENCH c =
-    let told = (told_refused _ 1 _ (save_little _ _ c.if-bench-lt-BENCH.true)) in
-    record { answer = told.0; bench = told.1 }
+pub returns-in_err-look : goal.returns-in_err-look
+returns-in_err-look c =
+    passing _ _ (err_from_is_err_and _ c.from_residual.ensures.1) (save_unready _ _ _ c.in_err-look.ensures)
 
-pub returns-then-not-is_sound : goal.returns-then-not-is_sound
-returns-then-not-is_sound c =
-    let told = (told_refused _ 17 _ (save_lost _ _ c.if-bench-lt-BENCH.false (c.is_sound.ensures.no c.if-not-is_sound.true))) in
-    record { answer = told.0; bench = told.1 }
-
-pub returns-then-name-gt7 : goal.returns-then-name-gt7
-returns-then-name-gt7 c =
-    let told = (told_refused _ 18 _ (save_refused _ _ c.if-bench-lt-BENCH.false (c.is_sound.ensures.yes c.if-not-is_sound.false) c.if-name-gt7.true)) in
-    record { answer = told.0; bench = told.1 }
+pub returns-in_err-i : goal.returns-in_err-i
+returns-in_err-i c =
+    let sound = c.in_ok-look.ensures in
+    let i = c.in_err-i.ensures in
+    passing _ _ (err_from_is_err_and _ c.from_residual-in_err-i.ensures.1) (rw i.0 (save_refused _ _ sound.0 sound.1 i.1))
 
 pub returns : goal.returns
 returns c =
-    let told = (told_left _ _ _ _
-    (save_done _ _ c.if-bench-lt-BENCH.false (c.is_sound.ensures.yes c.if-not-is_sound.false) c.if-name-gt7.false)
-    (saved_as _ _ _ c.copy_state.ensures)) in
-    record { answer = told.0; bench = told.1 }
+    let sound = c.in_ok-look.ensures in
+    let i = c.in_ok-i.ensures in
+    let first = rw c.unwrap.ensures at c.first_chunk_mut.ensures.cases in
+    let copied = first_copied c.args.bench.now (omega arith) (omega (arith, i.0, i.1)) first.same c.copy_state.ensures in
+    leaving _ _ (save_done _ _ sound.0 sound.1 i.1) (rw i.0 (saved_as _ _ _ (rw i.0 at copied)))

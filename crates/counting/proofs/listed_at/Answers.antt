@@ -1,20 +1,20 @@
 -- `listed_at` meets its contract: behind the count there is no word, and before it the walk finds it.
-use Rattle.std.proofs.Common.{◌≡◌, ℕ, ◌<◌, sym, ◌∙◌, ap₂, arith}
-use Rattle.lent.specs.LentLaws.{used_none, used_left}
+use Rattle.std.proofs.Common.{Some}
+use Rattle.std.proofs.Common.{◌≡◌, ℕ, ◌<◌, refl, sym, ◌∙◌, ap₂, arith}
 use Rattle.chains.specs.Listing.{count}
-use Rattle.counting.specs.declared.Listed.TheVariants.{Word}
 use Rattle.counting.specs.Forward.{Found}
 use Rattle.counting.specs.Ranked.{listed_at}
 use Rattle.counting.specs.RankedLaws.{listed_past, listed_there}
 use Rattle.counting.proofs.listed_at.Goals as goal
 
-there : {n i rises marks : ℕ} → i < count n → Found n i rises marks → Word i rises marks ≡ listed_at n i
-there {n} {i} h f = ap₂ (λ (x y : ℕ). Word i x y) f.rising f.marking ∙ sym (listed_there n i h)
+there : {n i rises marks : ℕ} → i < count n → Found n i rises marks
+    → Some (record { position = i; rises = rises; marks = marks }) ≡ listed_at n i
+there {n} {i} h f = ap₂ (λ (x y : ℕ). Some (record { position = i; rises = x; marks = y })) f.rising f.marking ∙ sym (listed_there n i h)
 
 pub returns-then-count-i : goal.returns-then-count-i
 returns-then-count-i c =
     let s = c.before in
-    record { value = sym (listed_past _ _ (omega (arith, c.count_in-count.ensures, c.if-count-i.true))); scratch_after = c.clear_scratch.ensures ∙ used_left s.requires.size used_none }
+    record { value = sym (listed_past _ _ (omega (arith, c.count_in-count.ensures, c.if-count-i.true))); scratch_after = refl }
 
 pub word_in-word-requires : goal.word_in-word-requires
 word_in-word-requires c =
@@ -22,4 +22,4 @@ word_in-word-requires c =
 
 pub returns : goal.returns
 returns c =
-    let s = c.before in record { value = there (omega (arith, c.count_in-count.ensures, c.if-count-i.false)) c.word_in-word.ensures.found; scratch_after = c.clear_scratch-2.ensures ∙ used_left s.requires.size c.word_in-word.ensures.only_first }
+    let s = c.before in record { value = there (omega (arith, c.count_in-count.ensures, c.if-count-i.false)) c.word_in-word.ensures; scratch_after = refl }

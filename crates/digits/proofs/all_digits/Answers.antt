@@ -1,7 +1,6 @@
--- `all_digits` answers whether every character is a digit: whether all so far are, together with the characters from i on. The
--- measure is what is left of the line.
-use Rattle.std.proofs.Common.{◌≡◌, ℕ, ◌+◌, ◌<◌, ◌≤◌, Bool, ◌&&◌, List, length, get_or, drop, sym, ◌∙◌, arith, drop_of_length-le, rules}
-use mathlib.Core.Bool.{and_assoc, and-true}
+-- `all_digits` answers whether every character is a digit: whether all so far are, together with the characters from c-index on.
+use Rattle.std.proofs.Common.{◌≡◌, ◌∙◌, ◌&&◌, Bool, List, ℕ, ◌+◌, ◌<◌, ◌≤◌, length, get_or, drop, sym, drop_of_length-le, arith}
+use Rattle.std.proofs.Math.Bool.{and_assoc, and-true}
 use Rattle.digits.specs.Digits.{is_digit, every, all_digits}
 use Rattle.digits.proofs.DigitLaws.{every_from}
 use Rattle.digits.proofs.all_digits.Goals as goal
@@ -16,11 +15,8 @@ all_seen : (s : List ℕ) (i : ℕ) (all : Bool) → length s ≤ i → all_digi
 unfolding every
 all_seen s i all h e = sym (e ∙ rw (drop_of_length-le s h) (and-true all))
 
-pub loop-i-preserved : goal.loop-i-preserved
-loop-i-preserved c = (
-  search rules,
-  next _ _ c.loop-i.all _ (omega arith) c.is_digit-all.ensures c.loop-i.invariant.1,
-)
+pub loop-c-preserved : goal.loop-c-preserved
+loop-c-preserved c = next _ _ c.loop-c.all _ (omega arith) c.is_digit-all.ensures c.loop-c.invariant
 
 pub returns : goal.returns
-returns c = all_seen _ c.loop-i.i _ (omega arith) c.loop-i.invariant.1
+returns c = all_seen _ c.loop-c.c-index _ (omega arith) c.loop-c.invariant

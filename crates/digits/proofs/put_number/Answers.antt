@@ -1,6 +1,6 @@
 -- `put_number` leaves what `put_digits` says: from the back, the digits that are still to be written and what stands from i on make
--- the same buffer at every turn. The measure is the number of digits that are left.
-use Rattle.std.proofs.Common.{◌≡◌, ℕ, suc, ◌/◌, ◌%◌, ◌<◌, ◌≤◌, List, ◌++◌, length, drop, set, sym, refl, ◌∙◌, append_assoc, arith, drop-cons, get_or-set_same, drop-set-lt, lt-length-set, rules}
+-- the same buffer at every turn.
+use Rattle.std.proofs.Common.{◌≡◌, ℕ, suc, ◌/◌, ◌%◌, ◌<◌, ◌≤◌, List, ◌++◌, length, drop, set, sym, ◌∙◌, append_assoc, arith, drop-cons, get_or-set_same, drop-set-lt, lt-length-set}
 use Rattle.digits.specs.Digits.{digit_of, digits_of}
 use Rattle.digits.proofs.DigitLaws.{put_room, put_no_room}
 use Rattle.digits.proofs.put_number.Goals as goal
@@ -23,14 +23,10 @@ pub returns-then-out-k : goal.returns-then-out-k
 returns-then-out-k c = sym (put_no_room _ _ _ (omega arith))
 
 pub loop-i-init : goal.loop-i-init
-loop-i-init c = (omega arith, refl, put_room _ _ _ (omega arith))
+loop-i-init c = put_room _ _ _ (omega arith)
 
 pub loop-i-preserved : goal.loop-i-preserved
-loop-i-preserved c = (
-  search rules,
-  search rules,
-  c.loop-i.invariant.2 ∙ next _ _ _ _ _ _ (omega arith) (omega arith) (omega arith) c.digit_of.ensures,
-)
+loop-i-preserved c = c.loop-i.invariant ∙ next _ _ _ _ _ _ (omega arith) (omega arith) (omega arith) c.digit_of.ensures
 
 pub returns : goal.returns
-returns c = sym (c.loop-i.invariant.2 ∙ all_put _ _ _ (omega arith))
+returns c = sym (c.loop-i.invariant ∙ all_put _ _ _ (omega arith))

@@ -1,18 +1,20 @@
 -- `count_up_to` answers the count where enough is lent, and zeroes the table.
-use mathlib.Core.Path.{sym, ap, ◌∙◌}
-use Rattle.lent.specs.LentLaws.{refused_untouched, served_zeroed, used_left}
-use Rattle.counting.specs.declared.Counted.TheVariants.{Count}
+use Rattle.std.proofs.Common.{Ok, sym, ap, ◌∙◌}
+use Rattle.lent.specs.Lent.{filled, zeros}
+use Rattle.lent.specs.LentLaws.{refused_untouched, served_zeroed}
 use Rattle.limited.specs.Promises.{up_to_served, up_to_refused}
 use Rattle.limited.proofs.count_up_to.Goals as goal
 
-pub returns-then-scratch-lt-TABLE : goal.returns-then-scratch-lt-TABLE
-returns-then-scratch-lt-TABLE c =
-    record { answer = sym (up_to_refused _ _ _ c.if-scratch-lt-TABLE.true); scratch = sym (refused_untouched _ c.if-scratch-lt-TABLE.true) }
-
-pub count-count-requires : goal.count-count-requires
-count-count-requires c =
-    c.if-scratch-lt-TABLE.false
+pub returns-in_default : goal.returns-in_default
+returns-in_default c =
+    let h = c.in_default.ensures.cases in
+    record { answer = sym (up_to_refused _ _ _ h); scratch = sym (refused_untouched _ h) }
 
 pub returns : goal.returns
+unfolding filled zeros
 returns c =
-    let h = c.if-scratch-lt-TABLE.false in record { answer = ap Count c.count-count.ensures.value ∙ sym (up_to_served _ _ _ h); scratch = c.clear_first.ensures ∙ used_left h c.count-count.ensures.only_first ∙ sym (served_zeroed _ h) }
+    let h = c.in-Some.ensures.cases.enough in
+    record {
+      answer = ap Ok c.count-count.ensures ∙ sym (up_to_served _ _ _ h);
+      scratch = sym (served_zeroed _ h);
+    }

@@ -1,15 +1,16 @@
--- `meltsjuk_cheapest` turns the cheapest chain's answer into numbers, case by case of its outcome.
+-- `meltsjuk_cheapest` turns the answer of the cheapest chain into numbers, case by case of its outcome.
+use Rattle.std.proofs.Common.{◌∙◌}
 use Rattle.meltsjuk.specs.AnswerLaws.{chosen_is_told, none_chosen_is_told}
 use Rattle.meltsjuk.proofs.meltsjuk_cheapest.Goals as goal
 
-pub returns-in-Chain : goal.returns-in-Chain
-returns-in-Chain c =
-    let (status, parts, cost) = chosen_is_told _ _ _ _ _ _ (c.in-Chain.ensures.answer) in
+pub returns-in-Ok : goal.returns-in-Ok
+returns-in-Ok c =
+    let (status, parts, cost) = chosen_is_told _ _ _ _ _ (c.in-Ok.ensures.answer) in
     rw (← c.limits_by-limits.ensures, ← c.prices_by-prices.ensures)
     (record { answer = status; k = parts; price = cost; places = c.cheapest_chain.ensures.places; scratch = c.cheapest_chain.ensures.scratch })
 
-pub returns-in-Refused : goal.returns-in-Refused
-returns-in-Refused c =
-    let (status, parts, cost) = none_chosen_is_told _ _ _ _ _ (c.in-Refused.ensures.answer) in
+pub returns-in-Err : goal.returns-in-Err
+returns-in-Err c =
+    let (status, parts, cost) = none_chosen_is_told _ _ _ _ _ (c.in-Err.ensures.answer) in
     rw (← c.limits_by-limits.ensures, ← c.prices_by-prices.ensures)
-    (record { answer = status; k = parts; price = cost; places = c.cheapest_chain.ensures.places; scratch = c.cheapest_chain.ensures.scratch })
+    (record { answer = c.from.ensures ∙ status; k = parts; price = cost; places = c.cheapest_chain.ensures.places; scratch = c.cheapest_chain.ensures.scratch })

@@ -10,22 +10,22 @@ returns-then-number-ge1344 c = sym (exponents_none _ c.if-number-ge1344.true)
 
 pub overflow_mul-a : goal.overflow_mul-a
 overflow_mul-a c =
-    let octave = c.octave_at-l.ensures in
+    let octave = rw c.from-i.ensures at c.octave_at-l.ensures in
     omega (
       arith,
       octave,
       (part_found _ c.if-number-ge1344.false _ _ _ _ octave c.parts_below-first.ensures
-          c.parts_below.ensures c.triplings_at-b.ensures).0,
+          c.parts_below.ensures (rw c.from-i.ensures at c.triplings_at-b.ensures)).0,
     )
 
 pub overflow_sub-a : goal.overflow_sub-a
 overflow_sub-a c =
-    (part_found _ c.if-number-ge1344.false _ _ _ _ c.octave_at-l.ensures
-    c.parts_below-first.ensures c.parts_below.ensures c.triplings_at-b.ensures).0
+    (part_found _ c.if-number-ge1344.false _ _ _ _ (rw c.from-i.ensures at c.octave_at-l.ensures)
+    c.parts_below-first.ensures c.parts_below.ensures (rw c.from-i.ensures at c.triplings_at-b.ensures)).0
 
 pub returns : goal.returns
 returns c =
     let low = c.if-number-ge1344.false in
-    (part_found _ low _ _ _ _ c.octave_at-l.ensures
-    c.parts_below-first.ensures c.parts_below.ensures c.triplings_at-b.ensures).1
+    (part_found _ low _ _ _ _ (rw c.from-i.ensures at c.octave_at-l.ensures)
+    c.parts_below-first.ensures c.parts_below.ensures (rw c.from-i.ensures at c.triplings_at-b.ensures)).1
     ∙ sym (exponents_at_lem _ low)

@@ -79,9 +79,5 @@ pub overflow_sub-length : goal.overflow_sub-length
 overflow_sub-length c =
     leading_le 64 _
 
-pub overflow_cast-result : goal.overflow_cast-result
-overflow_cast-result c =
-    omega (arith, trailing_le 64 c.args.v)
-
 pub returns : goal.returns
-returns c = λ (p : Part) (e : value p ≡ c.args.v). exponents p c.args.v (search rules) e
+returns c = λ (p : Part) (e : value p ≡ c.args.v). rw (c.from.ensures, c.from-2.ensures) (exponents p c.args.v (search rules) e)

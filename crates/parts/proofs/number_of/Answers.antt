@@ -2,12 +2,12 @@
 -- has its rank for a number.
 use mathlib.Core.Path.{◌≡◌, sym, ap, ◌∙◌}
 use mathlib.Core.Logic.{◌⊎◌, inl, inr, ⊎_elim}
+use Rattle.std.specs.Prelude.{Some, None}
 use Prim.Native.Nat.{ℕ, ◌+◌, ◌*◌, ◌/◌, ◌≤◌, ◌<◌}
 use native.Mathlib.Nat.{mul-le-mul}
 use native.Mathlib.Omega.{arith}
 use borrow.Author.Tests.{le-leb, lt-leb}
 use Rattle.chains.specs.Chains.{Part, value}
-use Rattle.parts.specs.declared.Number.TheVariants.{At, None}
 use Rattle.parts.specs.Parts.{limit, number_of}
 use Rattle.chains.proofs.Bounds.{part_bounds}
 use Rattle.parts.proofs.Numbers.{inside, rank, outside_over, inside_found, number_rank, number_none, number_at}
@@ -32,8 +32,8 @@ module _ (p : Part) (across : p.a ≤ 63) (upward : p.b ≤ 40) where
     unfolding inside
     low = (inside_found p (omega arith) (omega arith) (le-leb (p.a + 1623 * p.b / 1024) 63 h)).0
 
-    number : At (rank p.a p.b) ≡ number_of p
-    number = ap At (sym (number_rank p low)) ∙ sym (number_at p low)
+    number : Some (rank p.a p.b) ≡ number_of p
+    number = ap Some (sym (number_rank p low)) ∙ sym (number_at p low)
 
 -- The products in a rank are small.
 abbrev Small : ℕ → ℕ → Type 0

@@ -4,4 +4,4 @@ use lib.ListN.{get_or-eq_default}
 use Rattle.parts.proofs.value_of.Goals as goal
 
 pub returns-else-i-table : goal.returns-else-i-table
-returns-else-i-table c = sym (get_or-eq_default c.args.table.now 0 c.if-i-table.false)
+returns-else-i-table c = sym (get_or-eq_default c.args.table.now 0 (rw c.from-i.ensures at c.if-i-table.false))

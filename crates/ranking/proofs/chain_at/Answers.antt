@@ -1,45 +1,32 @@
 -- `chain_at` meets its contract: the word at the position is found, and its parts are given.
-use mathlib.Core.Path.{sym, ◌∙◌}
+use Rattle.std.proofs.Common.{◌≡◌, ℕ, refl, sym, ◌∙◌, arith}
+use Rattle.std.proofs.Math.Nat.{le_of_eq}
 use Rattle.lent.specs.Lent.{scratch_size}
-use Rattle.lent.specs.LentLaws.{little_scratch_lem, little_places, served_zeroed}
+use Rattle.lent.specs.LentLaws.{little_scratch_lem, little_places}
+use Rattle.counting.specs.Ranked.{listed_at}
 use Rattle.counting.specs.RankedLaws.{list_served}
 use Rattle.ranking.specs.Services.{at_position}
-use Rattle.ranking.proofs.Answers.{little, served_given, told_word, told_past, told_no_refusal, refused_given, standing_given}
+use Rattle.ranking.proofs.Answers.{all_zeroed, little, part_long, part_back, served_given}
 use Rattle.ranking.proofs.chain_at.Goals as goal
 
-pub returns-then-scratch-lt-SCRATCH : goal.returns-then-scratch-lt-SCRATCH
-returns-then-scratch-lt-SCRATCH c =
-    let told = (little _ _ _ (little_scratch_lem 64 _ _ c.if-scratch-lt-SCRATCH.true)) in
+pub returns-in_default : goal.returns-in_default
+returns-in_default c =
+    let told = little _ (little_scratch_lem 64 _ _ c.in_default.ensures.cases) refl in
     record { answer = told.0; places = told.1.0; scratch = told.1.1 }
 
-pub returns-then-places-lt64 : goal.returns-then-places-lt64
-returns-then-places-lt64 c =
-    let told = (little _ _ _ (little_places scratch_size 64 _ _ c.if-places-lt64.true)) in
+pub returns-in_default-first_chunk_mut : goal.returns-in_default-first_chunk_mut
+returns-in_default-first_chunk_mut c =
+    let told = little _ (little_places scratch_size 64 _ _ c.in_default-first_chunk_mut.ensures.cases) (part_back c.in-Some.ensures.cases) in
     record { answer = told.0; places = told.1.0; scratch = told.1.1 }
 
-pub give_parts-requires : goal.give_parts-requires
-give_parts-requires c =
-    c.if-places-lt64.false
+pub returns-in_err-listed : goal.returns-in_err-listed
+returns-in_err-listed c =
+    let z : ◌≡◌ {A = ℕ} 0 1 = cc (list_served _ (le_of_eq (sym (part_long c.in-Some.ensures.cases))) _, c.word_at.ensures.value, c.in_err-listed.was) in absurd (omega arith)
 
-pub returns-in-Word : goal.returns-in-Word
+pub returns : goal.returns
 unfolding at_position
-returns-in-Word c =
-    let told = (let h = c.if-scratch-lt-SCRATCH.false in
-    served_given _ _ _ _ _ _ h c.if-places-lt64.false
-    (standing_given _ _ 6 (told_word _ _ (sym (list_served _ h _) ∙ sym c.word_at.ensures.value ∙ c.in-Word.is)) c.give_parts.ensures)
-    (c.word_at.ensures.scratch_after ∙ served_zeroed _ h)) in
+returns c =
+    let told = served_given c.in-Some.ensures.cases c.in-Some-first_chunk_mut.ensures.cases _
+    (c.give_listed.ensures _ (cc (list_served _ (le_of_eq (sym (part_long c.in-Some.ensures.cases))) (listed_at c.args.n c.args.position), c.word_at.ensures.value, c.in_ok-listed.was)))
+    (c.word_at.ensures.scratch_after ∙ all_zeroed _ (part_long c.in-Some.ensures.cases)) in
     record { answer = told.0; places = told.1.0; scratch = told.1.1 }
-
-pub returns-in-Past : goal.returns-in-Past
-unfolding at_position
-returns-in-Past c =
-    let told = (let h = c.if-scratch-lt-SCRATCH.false in
-    served_given _ _ _ _ _ _ h c.if-places-lt64.false
-    (refused_given _ _ _ (told_past _ _ 6 (sym (list_served _ h _) ∙ sym c.word_at.ensures.value ∙ c.in-Past.is)))
-    (c.word_at.ensures.scratch_after ∙ served_zeroed _ h)) in
-    record { answer = told.0; places = told.1.0; scratch = told.1.1 }
-
-pub returns-in-Refused : goal.returns-in-Refused
-returns-in-Refused c =
-    let h = c.if-scratch-lt-SCRATCH.false in
-    absurd (told_no_refusal _ _ (sym (list_served _ h _) ∙ sym c.word_at.ensures.value ∙ c.in-Refused.is))

@@ -1,38 +1,30 @@
 -- `next_chain` meets its contract: what comes next of a word that is packed is what stands one position on.
-use mathlib.Core.Path.{sym, ◌∙◌}
+use Rattle.std.proofs.Common.{refl, sym, ◌∙◌}
 use Rattle.lent.specs.Lent.{scratch_size}
 use Rattle.lent.specs.LentLaws.{little_scratch_lem, little_places}
 use Rattle.words.specs.PackedLaws.{packed_letters_lem}
-use Rattle.ranking.proofs.Answers.{little, served_given, refused_served, word_held, next_standing, next_refused}
+use Rattle.ranking.proofs.Answers.{little, part_back, served_given, refused_given, word_held, next_standing, next_refused}
 use Rattle.ranking.proofs.next_chain.Goals as goal
 
-pub returns-then-scratch-lt-SCRATCH : goal.returns-then-scratch-lt-SCRATCH
-returns-then-scratch-lt-SCRATCH c =
-    let told = (little _ _ _ (little_scratch_lem 64 _ _ c.if-scratch-lt-SCRATCH.true)) in
+pub returns-in_default : goal.returns-in_default
+returns-in_default c =
+    let told = little _ (little_scratch_lem 64 _ _ c.in_default.ensures.cases) refl in
     record { answer = told.0; places = told.1.0; scratch = told.1.1 }
 
-pub returns-then-places-lt64 : goal.returns-then-places-lt64
-returns-then-places-lt64 c =
-    let told = (little _ _ _ (little_places scratch_size 64 _ _ c.if-places-lt64.true)) in
+pub returns-in_default-first_chunk_mut : goal.returns-in_default-first_chunk_mut
+returns-in_default-first_chunk_mut c =
+    let told = little _ (little_places scratch_size 64 _ _ c.in_default-first_chunk_mut.ensures.cases) (part_back c.in-Some.ensures.cases) in
     record { answer = told.0; places = told.1.0; scratch = told.1.1 }
 
-pub give_after-requires : goal.give_after-requires
-give_after-requires c =
-    (c.if-scratch-lt-SCRATCH.false, c.if-places-lt64.false)
-
-pub refuse-requires : goal.refuse-requires
-refuse-requires c =
-    c.if-scratch-lt-SCRATCH.false
-
-pub returns-in-Word : goal.returns-in-Word
-returns-in-Word c =
-    let told = (let p = packed_letters_lem _ _ _ _ _ (sym c.pack_letters.ensures ∙ c.in-Word.is) in
-    served_given _ _ _ _ _ _ c.if-scratch-lt-SCRATCH.false c.if-places-lt64.false
-    (rw (next_standing p) (c.give_after.ensures.given _ (word_held p).member p.rising)) c.give_after.ensures.scratch_after) in
+pub returns-in-Ok : goal.returns-in-Ok
+returns-in-Ok c =
+    let p = packed_letters_lem _ _ (sym c.pack_letters.ensures ∙ c.in-Ok.is) in
+    let told = served_given c.in-Some.ensures.cases c.in-Some-first_chunk_mut.ensures.cases _
+    (rw (next_standing p) (c.give_after.ensures.given _ (word_held p).member p.rising)) c.give_after.ensures.scratch_after in
     record { answer = told.0; places = told.1.0; scratch = told.1.1 }
 
-pub returns-in-Refused : goal.returns-in-Refused
-returns-in-Refused c =
-    let told = (refused_served _ _ _ _ _ _ c.if-scratch-lt-SCRATCH.false c.if-places-lt64.false
-    (next_refused _ _ (sym c.pack_letters.ensures ∙ c.in-Refused.is)) c.refuse.ensures.value c.refuse.ensures.scratch_after) in
+pub returns-in-Err : goal.returns-in-Err
+returns-in-Err c =
+    let told = served_given c.in-Some.ensures.cases c.in-Some-first_chunk_mut.ensures.cases _
+    (rw c.refuse.ensures.value (refused_given _ _ _ (next_refused _ _ (sym c.pack_letters.ensures ∙ c.in-Err.is)))) c.refuse.ensures.scratch_after in
     record { answer = told.0; places = told.1.0; scratch = told.1.1 }

@@ -1,5 +1,4 @@
 -- `answer_lines` answers a line at each turn. The measure is what is left of the block.
-use native.Mathlib.Omega.{arith}
 use Rattle.stream.specs.AnswerLaws.{wrote_fits}
 use Rattle.stream.proofs.Turns.{none_answered, one_more, no_room, all_used, all_wrote, rest_kept}
 use borrow.Author.Rules.{rules}
@@ -21,8 +20,10 @@ returns-then-out-written-lt515 c =
 pub loop-end-preserved : goal.loop-end-preserved
 loop-end-preserved c =
     let f = c.finish_line-written.ensures in
-    one_more c.loop-end.invariant _ _ _ _ _ (omega arith) c.requires.memory.numbers f.adds f.only_first f.scratch_after c.line_end-end-in-loop-end.ensures
+    one_more c.loop-end.invariant _ _ _ _ _ c.in-Some.ensures.0 c.in-Some.ensures.1 c.requires.memory.numbers f.adds f.only_first f.scratch_after
 
 pub returns : goal.returns
 returns c =
-    let t = c.loop-end.invariant in record { goes = all_used t (omega arith); wrote = all_wrote t (omega arith); keeps = rest_kept t (omega arith) _ _ c.keep-left.ensures; only_first = t.rest }
+    let t = c.loop-end.invariant in
+    let u = c.in_default.ensures in
+    record { goes = all_used t u; wrote = all_wrote t u; keeps = rest_kept t u _ _ c.keep.ensures; only_first = t.rest }

@@ -8,6 +8,7 @@ use borrow.Rule.Slice.PartMut.{mid_of, put_mid, mid_len, Post-is}
 use lib.ListN.{length, take}
 use lib.Seq.{length-take-le}
 use Rattle.lent.specs.Lent.{zeros, filled}
+use Rattle.lent.specs.LentLaws.{zeros_by_fill}
 use Rattle.stream.proofs.clear_behind.Goals as goal
 
 zeroed : (n : ℕ) (kept ys : List ℕ) → n ≤ 515 → 515 ≤ length kept → ys ≡ zeros (length (mid_of n (515 - n) kept))
@@ -17,4 +18,4 @@ zeroed n kept ys h l e = rw (e, mid_len n 515 kept l, length-take-le n kept (ome
 
 pub returns : goal.returns
 returns c =
-    search (rules, zeroed)
+    search (rules, zeroed, zeros_by_fill _ c.fill.ensures.after)

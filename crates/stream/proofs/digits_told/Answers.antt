@@ -3,10 +3,10 @@ use mathlib.Core.Path.{sym, ap}
 use Rattle.stream.specs.Pieces.{digits_told}
 use Rattle.stream.proofs.digits_told.Goals as goal
 
-pub returns-in-Digits : goal.returns-in-Digits
+pub returns-in-Ok : goal.returns-in-Ok
 unfolding digits_told
-returns-in-Digits c = sym (ap digits_told c.in-Digits.is)
+returns-in-Ok c = sym (ap digits_told c.in-Ok.is)
 
-pub returns-in-Refused : goal.returns-in-Refused
+pub returns-in-Err : goal.returns-in-Err
 unfolding digits_told
-returns-in-Refused c = sym (ap digits_told c.in-Refused.is)
+returns-in-Err c = sym (ap digits_told c.in-Err.is)

@@ -1,9 +1,7 @@
 -- There are as many parts as marks. Where fewer than 64 places are lent, no more is done.
-use mathlib.Core.Path.{◌≡◌, sym}
+use mathlib.Core.Path.{◌≡◌, sym, ◌∙◌}
 use mathlib.Core.List.{List, map}
 use Prim.Native.Nat.{ℕ, ◌≤◌, ◌<◌}
-use native.Mathlib.Omega.{arith}
-use lib.Count.{ones-le}
 use lib.ListN.{length}
 use borrow.Author.Rules.{rules}
 use borrow.Author.Tests.{lt-ltb, le-ltb}
@@ -23,14 +21,10 @@ module _ (rises marks : ℕ) (entry : List ℕ) where
   unfolding parts_left
   put h l e = rw (le-ltb (length entry) 64 h) e
 
-pub overflow_cast-k : goal.overflow_cast-k
-overflow_cast-k c =
-    omega (arith, ones-le 64 c.args.marks (search rules))
-
 pub returns-then-places-lt64 : goal.returns-then-places-lt64
 returns-then-places-lt64 c =
-    record { answer = sym (packed_count c.args.rises c.args.marks (search rules)); places = few _ _ c.args.places.now c.if-places-lt64.true }
+    record { answer = c.from-k.ensures ∙ sym (packed_count c.args.rises c.args.marks (search rules)); places = few _ _ c.args.places.now c.if-places-lt64.true }
 
 pub returns : goal.returns
 returns c =
-    record { answer = sym (packed_count c.args.rises c.args.marks (search rules)); places = put _ _ c.args.places.now c.if-places-lt64.false _ c.fill_places.ensures }
+    record { answer = c.from-k.ensures ∙ sym (packed_count c.args.rises c.args.marks (search rules)); places = put _ _ c.args.places.now c.if-places-lt64.false _ c.fill_places.ensures }

@@ -6,13 +6,15 @@ use borrow.Author.Rules.{rules}
 use Rattle.moves.specs.Amounts.{low_bit}
 use Rattle.moves.proofs.BitLaws.{low_bounds}
 use Rattle.moves.proofs.AmountLaws.{fall_none, fall_first, fall_second}
+use Rattle.bench.specs.Planning.{kind_number}
 use Rattle.bench.proofs.amounts.fall.Goals as goal
 
 pub returns-then-y-eq0 : goal.returns-then-y-eq0
 returns-then-y-eq0 c =
-    rw c.if-y-eq0.true (fall_none c.args.x)
+    rw c.if-y-eq0.true (sym (fall_none c.args.x).kinds)
 
 pub returns-then-x-low : goal.returns-then-x-low
+unfolding kind_number
 returns-then-x-low c =
     fall_first c.args.x c.args.y _ c.if-y-eq0.false (sym c.low_bit-low.ensures) c.if-x-low.true
 
@@ -27,6 +29,7 @@ overflow_sub-result c =
     omega (arith, low_bounds y (search rules) (search rules), e)
 
 pub returns : goal.returns
+unfolding kind_number
 returns c =
     rw c.low_bit-high.ensures
     (fall_second c.args.x c.args.y _ c.if-y-eq0.false (sym c.low_bit-low.ensures) c.if-x-low.false)

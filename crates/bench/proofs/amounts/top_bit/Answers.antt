@@ -1,13 +1,8 @@
 -- The highest one bit of a number with z leading zeros is 2^(63 - z); above 0 z is below 64, so the shift is in range.
 use native.Mathlib.Omega.{arith}
-use borrow.Author.Rules.{rules}
 use Rattle.moves.specs.Amounts.{top_bit}
-use Rattle.moves.proofs.BitLaws.{shl_one, leading_some}
+use Rattle.moves.proofs.BitLaws.{shl_one}
 use Rattle.bench.proofs.amounts.top_bit.Goals as goal
-
-pub overflow_sub-result : goal.overflow_sub-result
-overflow_sub-result c =
-    omega (arith, leading_some c.args.x (search rules) (search rules))
 
 pub returns : goal.returns
 unfolding top_bit

@@ -1,134 +1,31 @@
--- The rows are those of the parts from the i-th number on, and a turn adds the part before these, for which its row has room because the
--- parts sum to less than 2^64.
-use native.Mathlib.Omega.{arith}
-use mathlib.Core.Path.{ap, sym, ◌∙◌}
-use lib.ListN.{length}
-use Rattle.lent.specs.LentLaws.{length_zeros}
-use Rattle.bench.proofs.Opening.{Stepped, stepped, none_laid, all_laid, laid_rows}
+-- A turn adds the part before these, for which its row has room because the parts sum to less than 2^64.
+use Rattle.std.proofs.Common.{arith}
+use Rattle.bench.proofs.Opening.{Stepped, stepped, none_laid}
 use Rattle.bench.proofs.laying.lay_out.Goals as goal
+use Rattle.bench.proofs.laying.lay_out.Goals.{After-exponents_at-e}
+
+turn :
+    (c : After-exponents_at-e)
+    → Stepped c.args.numbers.now c.args.n c.loop-i.i c.loop-i.rows c.exponents_at-e.result.a c.exponents_at-e.result.b
+turn c = stepped c.loop-i.invariant c.loop-i-test.true c.exponents_at-e.ensures
 
 pub loop-i-init : goal.loop-i-init
-loop-i-init c =
-    none_laid _ _ _ c.requires.0 c.requires.1
-
-pub overflow_sub-i : goal.overflow_sub-i
-overflow_sub-i c =
-    omega (arith, c.loop-i-test.true)
-
-pub bounds-numbers-i : goal.bounds-numbers-i
-bounds-numbers-i c =
-    omega (arith, c.loop-i-test.true, c.loop-i.invariant.within)
-
-pub exponents_at-e-requires : goal.exponents_at-e-requires
-exponents_at-e-requires c =
-    tt
-
-pub offset_bounds-rows-b : goal.offset_bounds-rows-b
-offset_bounds-rows-b c =
-    omega (
-      arith,
-      (let step : Stepped
-          c.args.numbers.now
-          c.args.n
-          c.loop-i.i
-          c.loop-i.rows
-          c.exponents_at-e.result.a
-          c.exponents_at-e.result.b = stepped c.loop-i.invariant c.loop-i-test.true c.exponents_at-e.ensures in step).row,
-    )
-
-pub bounds-rows-b : goal.bounds-rows-b
-bounds-rows-b c =
-    omega (
-      arith,
-      (let step : Stepped
-          c.args.numbers.now
-          c.args.n
-          c.loop-i.i
-          c.loop-i.rows
-          c.exponents_at-e.result.a
-          c.exponents_at-e.result.b = stepped c.loop-i.invariant c.loop-i-test.true c.exponents_at-e.ensures in step).row,
-      (let step : Stepped
-          c.args.numbers.now
-          c.args.n
-          c.loop-i.i
-          c.loop-i.rows
-          c.exponents_at-e.result.a
-          c.exponents_at-e.result.b = stepped c.loop-i.invariant c.loop-i-test.true c.exponents_at-e.ensures in step).rows,
-    )
+loop-i-init c = none_laid _ _ _ c.requires.0 c.requires.1
 
 pub overflow_shl-rows : goal.overflow_shl-rows
-overflow_shl-rows c =
-    (let step : Stepped
-    c.args.numbers.now
-    c.args.n
-    c.loop-i.i
-    c.loop-i.rows
-    c.exponents_at-e.result.a
-    c.exponents_at-e.result.b = stepped c.loop-i.invariant c.loop-i-test.true c.exponents_at-e.ensures in step).across
+overflow_shl-rows c = (turn (goal.at.overflow_shl-rows c).After-exponents_at-e).across
+
+pub offset_bounds-rows-e : goal.offset_bounds-rows-e
+offset_bounds-rows-e c = omega (arith, (turn (goal.at.offset_bounds-rows-e c).After-exponents_at-e).row)
+
+pub bounds-rows-e : goal.bounds-rows-e
+bounds-rows-e c = let t = turn (goal.at.bounds-rows-e c).After-exponents_at-e in omega (arith, t.row, t.rows)
 
 pub overflow_add-rows : goal.overflow_add-rows
-overflow_add-rows c =
-    record {
-      fits = (let step : Stepped
-          c.args.numbers.now
-          c.args.n
-          c.loop-i.i
-          c.loop-i.rows
-          c.exponents_at-e.result.a
-          c.exponents_at-e.result.b = stepped c.loop-i.invariant c.loop-i-test.true c.exponents_at-e.ensures in step).fits;
-    }
+overflow_add-rows c = record { fits = (turn (goal.at.overflow_add-rows c).After-exponents_at-e).fits }
 
-pub offset_bounds-rows-b-in-loop-i : goal.offset_bounds-rows-b-in-loop-i
-offset_bounds-rows-b-in-loop-i c =
-    omega (
-      arith,
-      (let step : Stepped
-          c.args.numbers.now
-          c.args.n
-          c.loop-i.i
-          c.loop-i.rows
-          c.exponents_at-e.result.a
-          c.exponents_at-e.result.b = stepped c.loop-i.invariant c.loop-i-test.true c.exponents_at-e.ensures in step).row,
-    )
-
-pub bounds-rows-b-in-loop-i : goal.bounds-rows-b-in-loop-i
-bounds-rows-b-in-loop-i c =
-    omega (
-      arith,
-      (let step : Stepped
-          c.args.numbers.now
-          c.args.n
-          c.loop-i.i
-          c.loop-i.rows
-          c.exponents_at-e.result.a
-          c.exponents_at-e.result.b = stepped c.loop-i.invariant c.loop-i-test.true c.exponents_at-e.ensures in step).row,
-      (let step : Stepped
-          c.args.numbers.now
-          c.args.n
-          c.loop-i.i
-          c.loop-i.rows
-          c.exponents_at-e.result.a
-          c.exponents_at-e.result.b = stepped c.loop-i.invariant c.loop-i-test.true c.exponents_at-e.ensures in step).rows,
-    )
-
-pub loop-i-smaller : goal.loop-i-smaller
-loop-i-smaller c =
-    omega (arith, c.loop-i-test.true)
+pub bounds-rows-e-in-loop-i : goal.bounds-rows-e-in-loop-i
+bounds-rows-e-in-loop-i c = let t = turn (goal.at.bounds-rows-e-in-loop-i c).After-exponents_at-e in omega (arith, t.row, t.rows)
 
 pub loop-i-preserved : goal.loop-i-preserved
-loop-i-preserved c =
-    (let step : Stepped
-    c.args.numbers.now
-    c.args.n
-    c.loop-i.i
-    c.loop-i.rows
-    c.exponents_at-e.result.a
-    c.exponents_at-e.result.b = stepped c.loop-i.invariant c.loop-i-test.true c.exponents_at-e.ensures in step).makes
-
-pub shape_of-rows : goal.shape_of-rows
-shape_of-rows c =
-    laid_rows c.loop-i.invariant ∙ sym (ap length c.requires.1 ∙ length_zeros 41)
-
-pub returns : goal.returns
-returns c =
-    all_laid c.loop-i.invariant c.loop-i-test.false
+loop-i-preserved c = (turn (goal.at.loop-i-preserved c).After-exponents_at-e).makes

@@ -1,12 +1,6 @@
--- `lower` makes both new numbers from the old ones: row b + 1 is read before row b is written.
-use native.Mathlib.Omega.{arith}
-use lib.ListN.{length-set}
-use Rattle.bench.proofs.PlanLoops.{lowered_writes}
+-- `lower` writes row b and then row b + 1, which is as it was until then.
+use Rattle.bench.proofs.PlanLoops.{lowered_over}
 use Rattle.bench.proofs.moving.lower.Goals as goal
 
-pub bounds-rows-b-4 : goal.bounds-rows-b-4
-bounds-rows-b-4 c = rw length-set (omega (arith, c.requires.0, c.requires.1.row))
-
 pub returns : goal.returns
-returns c =
-    lowered_writes _ _ _
+returns c = lowered_over _ _ _

@@ -1,12 +1,6 @@
--- `raise` makes both new numbers from the old ones: row b + 1 is read before row b is written.
-use native.Mathlib.Omega.{arith}
-use lib.ListN.{length-set}
-use Rattle.bench.proofs.PlanLoops.{raised_writes}
+-- `raise` writes row b and then row b + 1, which is as it was until then.
+use Rattle.bench.proofs.PlanLoops.{raised_over}
 use Rattle.bench.proofs.moving.raise.Goals as goal
 
-pub bounds-rows-b-4 : goal.bounds-rows-b-4
-bounds-rows-b-4 c = rw length-set (omega (arith, c.requires.0, c.requires.1.row))
-
 pub returns : goal.returns
-returns c =
-    raised_writes _ _ _
+returns c = raised_over _ _ _

@@ -1,12 +1,8 @@
 -- `is_chain` knows of the rows from i on that they are laid out as a chain, their lowest one bit and their sum, at most n; a row that does
 -- not fit below these refuses every chain of n.
-use Prim.Native.Nat.{◌≤◌}
-use lib.ListN.{length, drop}
+use Rattle.std.proofs.Common.{drop}
 use Rattle.bench.proofs.ChainTest.{Looked}
 use Rattle.bench.proofs.rows.is_chain.Given as goal
 
 abbrev pub invariant-loop-i : goal.invariant-loop-i
-invariant-loop-i l = (l.i ≤ length l.rows) × Looked l.n l.least l.sum (drop l.i l.rows)
-
-abbrev pub decreases-loop-i : goal.decreases-loop-i
-decreases-loop-i l = l.i
+invariant-loop-i l = Looked l.n l.least l.sum (drop l.i l.rows)

@@ -1,35 +1,30 @@
--- `empty` keeps row + 3 × above; every turn is a move, which takes from the upper row, and the moves that are left complete the phase.
-use native.Mathlib.Omega.{arith}
-use Rattle.moves.proofs.WalkLoops.{emptying_start, emptying_fall, emptying_end}
+-- Where `fall` tells no move, the upper row is empty.
+use Rattle.std.proofs.Common.{arith}
+use Rattle.moves.proofs.WalkLoops.{emptying_end}
+use Rattle.bench.proofs.PlanLoops.{emptied, emptying_on}
 use Rattle.bench.proofs.walking.empty.Goals as goal
-
-pub loop-above-init : goal.loop-above-init
-loop-above-init c =
-    emptying_start c.args.x c.args.y c.requires.0
 
 pub overflow_mul-row : goal.overflow_mul-row
 overflow_mul-row c =
-    let f = emptying_fall _ _ _ _ _ _ _ c.loop-above.invariant c.requires.1 c.loop-above-test.true c.fall-t.ensures in
-    omega (arith, f.1, c.loop-above.invariant.sums, c.requires.1)
+    let f = emptying_on _ c.loop-allowed.invariant c.requires.1 c.in-Some.ensures in
+    omega (arith, f.1, c.loop-allowed.invariant.sums, c.requires.1)
 
 pub overflow_add-row : goal.overflow_add-row
 overflow_add-row c =
-    let f = emptying_fall _ _ _ _ _ _ _ c.loop-above.invariant c.requires.1 c.loop-above-test.true c.fall-t.ensures in
-    omega (arith, f.1, c.loop-above.invariant.sums, c.requires.1)
+    let f = emptying_on _ c.loop-allowed.invariant c.requires.1 c.in-Some.ensures in
+    omega (arith, f.1, c.loop-allowed.invariant.sums, c.requires.1)
 
 pub overflow_sub-above : goal.overflow_sub-above
-overflow_sub-above c =
-    (emptying_fall _ _ _ _ _ _ _ c.loop-above.invariant c.requires.1 c.loop-above-test.true c.fall-t.ensures).1
+overflow_sub-above c = (emptying_on _ c.loop-allowed.invariant c.requires.1 c.in-Some.ensures).1
 
-pub loop-above-smaller : goal.loop-above-smaller
-loop-above-smaller c =
-    let f = emptying_fall _ _ _ _ _ _ _ c.loop-above.invariant c.requires.1 c.loop-above-test.true c.fall-t.ensures in
+pub loop-allowed-smaller : goal.loop-allowed-smaller
+loop-allowed-smaller c =
+    let f = emptying_on _ c.loop-allowed.invariant c.requires.1 c.in-Some.ensures in
     omega (arith, f.0, f.1)
 
-pub loop-above-preserved : goal.loop-above-preserved
-loop-above-preserved c =
-    (emptying_fall _ _ _ _ _ _ _ c.loop-above.invariant c.requires.1 c.loop-above-test.true c.fall-t.ensures).2
+pub loop-allowed-preserved : goal.loop-allowed-preserved
+loop-allowed-preserved c = (emptying_on _ c.loop-allowed.invariant c.requires.1 c.in-Some.ensures).2
 
 pub returns : goal.returns
 returns c =
-    emptying_end _ _ _ _ _ c.loop-above.invariant c.requires.1 c.loop-above-test.false
+    emptying_end _ _ _ _ _ c.loop-allowed.invariant c.requires.1 (emptied _ _ (c.in_default.ensures))

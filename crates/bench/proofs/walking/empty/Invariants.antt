@@ -2,8 +2,8 @@
 use Rattle.moves.proofs.WalkLoops.{Emptying}
 use Rattle.bench.proofs.walking.empty.Given as goal
 
-abbrev pub invariant-loop-above : goal.invariant-loop-above
-invariant-loop-above l = Emptying l.x l.y l.row l.above l.moves
+abbrev pub invariant-loop-allowed : goal.invariant-loop-allowed
+invariant-loop-allowed l = Emptying l.x l.y l.row l.above l.moves
 
-abbrev pub decreases-loop-above : goal.decreases-loop-above
-decreases-loop-above l = l.above
+abbrev pub decreases-loop-allowed : goal.decreases-loop-allowed
+decreases-loop-allowed l = l.above

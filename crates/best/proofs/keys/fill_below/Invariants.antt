@@ -3,7 +3,4 @@ use Rattle.best.specs.KeyRows.{Below}
 use Rattle.best.proofs.keys.fill_below.Given as goal
 
 abbrev pub invariant-loop-a : goal.invariant-loop-a
-invariant-loop-a l = Below l.costs l.doublings l.triplings l.b l.m l.start l.initial.part l.part l.a l.after l.turns
-
-abbrev pub decreases-loop-a : goal.decreases-loop-a
-decreases-loop-a l = l.a
+invariant-loop-a l = Below l.terms.costs l.terms.doublings l.terms.triplings l.fn.row.b l.m l.start l.initial.part l.part l.a l.after l.turns

@@ -10,36 +10,20 @@ bounds-part-top c =
 
 pub fill_below-requires : goal.fill_below-requires
 fill_below-requires c =
-    within_asked c.requires c.if-top-doublings.true
+    within_asked c.requires c.args.terms.now.low c.if-top-terms.true
 
-pub returns-then-top-doublings : goal.returns-then-top-doublings
-returns-then-top-doublings c =
-    within_told c.requires c.if-top-doublings.true c.fill_below.ensures
-
-pub overflow_add-start : goal.overflow_add-start
-overflow_add-start c =
-    omega (arith, c.if-top-doublings.false, c.requires.last)
-
-pub overflow_add-top : goal.overflow_add-top
-overflow_add-top c =
-    omega (arith, c.requires.last)
+pub returns-then-top-terms : goal.returns-then-top-terms
+returns-then-top-terms c =
+    within_told c.requires c.args.terms.now.low c.if-top-terms.true c.fill_below.ensures
 
 pub fill_none-requires : goal.fill_none-requires
 fill_none-requires c =
-    (omega (arith, c.if-top-doublings.false), omega (arith, c.requires.last), omega (arith, c.requires.asked.room))
+    (omega arith, omega (arith, c.requires.last), omega (arith, c.requires.asked.room))
 
 pub fill_below-requires-2 : goal.fill_below-requires-2
 fill_below-requires-2 c =
-    beyond_asked c.requires _ refl (omega (arith, c.if-top-doublings.false)) c.fill_none.ensures
+    beyond_asked c.requires _ refl (omega arith) c.fill_none.ensures
 
 pub returns : goal.returns
 returns c =
-    beyond_told c.requires _ refl (omega (arith, c.if-top-doublings.false)) c.fill_none.ensures c.fill_below-2.ensures
-
-pub shape_of-part-then-top-doublings : goal.shape_of-part-then-top-doublings
-shape_of-part-then-top-doublings c =
-    (returns-then-top-doublings c).filled.same
-
-pub shape_of-part : goal.shape_of-part
-shape_of-part c =
-    (returns c).filled.same
+    beyond_told c.requires _ refl (omega arith) c.fill_none.ensures c.fill_below-2.ensures

@@ -1,15 +1,7 @@
--- `fill_none` leaves no word from `from` on: at each turn none up to i.
-use Rattle.std.proofs.Common.{◌≡◌, arith}
-use Rattle.best.specs.KeyRowsLaws.{none_more}
+-- `fill_none` fills its part of the row with the key of no word.
+use Rattle.best.specs.KeyRowsLaws.{none_from}
 use Rattle.best.proofs.keys.fill_none.Goals as goal
-
-pub loop-i-preserved : goal.loop-i-preserved
-loop-i-preserved c =
-    let l = c.loop-i in
-    (none_more l.invariant.0 l.invariant.1 (omega arith) (omega arith), omega arith, omega arith)
 
 pub returns : goal.returns
 returns c =
-    let l = c.loop-i in
-    let e : l.i ≡ c.args.end = omega arith in
-    rw e at l.invariant.0
+    none_from _ _ _ (c.fill.ensures.after (λ y e. e)) c.requires.0 c.requires.1 c.requires.2

@@ -4,7 +4,7 @@ use Rattle.best.specs.KeyRows.{KeysFilled}
 use Rattle.best.proofs.keys.fill_rows.Given as goal
 
 abbrev pub invariant-loop-b : goal.invariant-loop-b
-invariant-loop-b l = KeysFilled l.costs l.doublings l.triplings l.n l.b l.initial.scratch l.scratch × (l.b ≤ 41)
-
-abbrev pub decreases-loop-b : goal.decreases-loop-b
-decreases-loop-b l = l.b
+invariant-loop-b l = record {
+  filled : KeysFilled l.terms.costs l.terms.doublings l.terms.triplings l.n l.b l.fn.scratch l.scratch;
+  within : l.b ≤ 41;
+}

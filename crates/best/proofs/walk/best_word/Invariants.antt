@@ -5,7 +5,7 @@ use Rattle.best.specs.Walk.{WalkedTo}
 use Rattle.best.proofs.walk.best_word.Given as goal
 
 abbrev pub invariant-loop-w : goal.invariant-loop-w
-invariant-loop-w l = WalkedTo l.costs l.doublings l.triplings l.n l.w.column l.w.b l.w.rises l.w.marks
+invariant-loop-w l = WalkedTo l.terms.costs l.terms.doublings l.terms.triplings l.n l.w.column l.w.b l.w.rises l.w.marks
 
 abbrev pub decreases-loop-w : goal.decreases-loop-w
 decreases-loop-w l = 2 ^ 65 - (l.w.column + l.w.b)

@@ -1,10 +1,11 @@
 -- The letters that are read, one after the other, are the eight from the place on.
-use mathlib.Core.Path.{◌≡◌, ap, ◌∙◌}
+use mathlib.Core.Path.{◌≡◌}
 use mathlib.Core.List.{[], ◌∷◌}
 use Prim.Native.Nat.{ℕ, suc, ◌+◌, ◌≤◌, ◌<◌}
 use native.Mathlib.Omega.{arith}
 use lib.ListN.{length, take, drop, get_or}
 use lib.Seq.{drop-cons}
+use borrow.Author.Rules.{rules}
 use Rattle.chains.specs.Words.{Word}
 use Rattle.comparing.specs.Eights.{high_first}
 use Rattle.comparing.proofs.EightAt.{eight_bytes, eight_long}
@@ -29,10 +30,11 @@ eight_read l i h =
     )
 
 pub returns : goal.returns
+unfolding high_first
 returns c =
     let l = c.args.letters.now in
     record {
-      bytes = eight_bytes l c.args.i (λ i. (c.shared_slice_known-1.given i).fits);
+      bytes = eight_bytes l c.args.i (search rules);
       long = eight_long l c.args.i c.requires;
-      number = c.number_of.ensures ∙ ap high_first (eight_read l c.args.i c.requires);
+      number = rw (← eight_read l c.args.i c.requires) (omega arith);
     }

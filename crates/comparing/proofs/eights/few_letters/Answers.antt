@@ -7,7 +7,6 @@ use native.Mathlib.Omega.{arith}
 use lib.Dec.{lit<}
 use lib.ListN.{length, take, drop, get_or, replicate}
 use lib.Seq.{take-suc, take-length}
-use borrow.Author.Rules.{rules}
 use Rattle.chains.specs.Words.{Word}
 use Rattle.comparing.specs.Eights.{high_first, EightOf}
 use Rattle.comparing.proofs.EightBits.{bytes_all}
@@ -26,18 +25,14 @@ one_more l i h k =
 all_in : (l : Word) (i x : ℕ) → i ≡ length l → EightOf (filled l i) x → EightOf (replicate (8 - length l) 3 ++ l) x
 all_in l i x e o = rw (e, take-length) at o
 
-pub loop-i-init : goal.loop-i-init
-loop-i-init c =
-    (search rules, threes)
+pub loop-letter-init : goal.loop-letter-init
+loop-letter-init c = threes
 
-pub loop-i-preserved : goal.loop-i-preserved
-loop-i-preserved c =
-    let w = c.args.letters.now in (
-      search rules,
-      subst (λ u. EightOf u c.with_last-x.result) (one_more w c.loop-i.i c.loop-i-test.true (search rules))
-          (c.with_last-x.ensures (filled w c.loop-i.i) c.loop-i.invariant.1),
-    )
+pub loop-letter-preserved : goal.loop-letter-preserved
+loop-letter-preserved c =
+    let w = c.args.letters.now in
+    subst (λ u. EightOf u c.with_last-x.result) (one_more w c.loop-letter.letter-index c.loop-letter-test.true (omega arith))
+    (c.with_last-x.ensures (filled w c.loop-letter.letter-index) c.loop-letter.invariant)
 
 pub returns : goal.returns
-returns c =
-    all_in _ c.loop-i.i _ (search rules) c.loop-i.invariant.1
+returns c = all_in _ c.loop-letter.letter-index _ (omega arith) c.loop-letter.invariant

@@ -1,7 +1,7 @@
 -- Each letter pushes out a 3 in front: after i letters the number is that of 8 - i letters 3 and the first i letters.
 use mathlib.Core.List.{◌++◌}
-use Prim.Native.Nat.{ℕ, ◌-◌, ◌≤◌}
-use lib.ListN.{length, take, replicate}
+use Prim.Native.Nat.{ℕ, ◌-◌}
+use lib.ListN.{take, replicate}
 use Rattle.chains.specs.Words.{Word}
 use Rattle.comparing.specs.Eights.{EightOf}
 use Rattle.comparing.proofs.eights.few_letters.Given as goal
@@ -10,8 +10,5 @@ use Rattle.comparing.proofs.eights.few_letters.Given as goal
 abbrev pub filled : Word → ℕ → Word
 filled l i = replicate (8 - i) 3 ++ take i l
 
-abbrev pub invariant-loop-i : goal.invariant-loop-i
-invariant-loop-i l = (l.i ≤ length l.letters) × EightOf (filled l.letters l.i) l.x
-
-abbrev pub decreases-loop-i : goal.decreases-loop-i
-decreases-loop-i l = length l.letters - l.i
+abbrev pub invariant-loop-letter : goal.invariant-loop-letter
+invariant-loop-letter l = EightOf (filled l.letters l.letter-index) l.x

@@ -6,14 +6,13 @@ use Prim.Native.Nat.{ℕ, zero, suc, ◌+◌, ◌-◌, ◌≤◌, ◌<◌}
 use native.Mathlib.Nat.{le_refl}
 use native.Mathlib.Decide.{dec_le}
 use native.Mathlib.Omega.{arith}
-use lib.Dec.{lit<}
 use lib.ListN.{length, take, drop, length-drop}
 use lib.Seq.{drop-drop, take_all}
-use borrow.Author.Rules.{rules}
 use Rattle.chains.specs.Words.{Word, reads}
 use Rattle.comparing.specs.Eights.{all_follow}
 use Rattle.comparing.specs.FollowLaws.{reads_drop, reads_false, reads_threes}
 use Rattle.comparing.proofs.judging.is_good_by_eights.Invariants.{AsGood}
+use Rattle.comparing.proofs.judging.is_good_by_eights.Goals.{else-loop-i-test, then-loop-i-test+else-not-follow+else-last-i-gt7}
 use Rattle.comparing.proofs.judging.is_good_by_eights.Goals as goal
 
 module _ (l : Word) where
@@ -55,11 +54,17 @@ returns-then-not-follow c =
 
 pub loop-i-preserved : goal.loop-i-preserved
 loop-i-preserved c =
-    further _ c.loop-i.i c.loop-i.invariant _ (lit< tt) (search rules)
+    further _ c.loop-i.i c.loop-i.invariant _ (omega arith) (omega arith)
     (sym (c.follow.ensures _ c.eight_at.ensures) ∙ c.if-not-follow.false)
 
 pub returns : goal.returns
 returns c =
     let w = c.args.letters.now in
-    at_end w c.loop-i.i c.loop-i.invariant (length w - 8) _ (search rules) (search rules)
+    let good : AsGood w (length w - 8) = elim c.loop-i-test.branch [
+      | else-loop-i-test b ↦ λ j h. c.loop-i.invariant j (omega arith)
+      | then-loop-i-test+else-not-follow+else-last-i-gt7 b ↦
+          λ j h. further w c.loop-i.i c.loop-i.invariant 7 (omega arith) (omega arith)
+          (sym (b.follow.ensures _ b.eight_at.ensures) ∙ b.if-not-follow.false) j (omega arith)
+    ] in
+    at_end w (length w - 8) good (length w - 8) _ (le_refl (length w - 8)) (omega arith)
     (c.is_good_eight-2.ensures _ c.eight_at-2.ensures)

@@ -2,7 +2,7 @@
 -- eight letters.
 use mathlib.Core.Path.{◌≡◌}
 use mathlib.Core.Bool.{true}
-use Prim.Native.Nat.{ℕ, ◌-◌, ◌≤◌}
+use Prim.Native.Nat.{ℕ, ◌≤◌}
 use lib.ListN.{drop}
 use Rattle.chains.specs.Words.{Word, reads}
 use Rattle.comparing.proofs.judging.is_good_by_eights.Given as goal
@@ -13,6 +13,3 @@ AsGood l i = (j : ℕ) → j ≤ i → reads true l ≡ reads true (drop j l)
 
 abbrev pub invariant-loop-i : goal.invariant-loop-i
 invariant-loop-i l = AsGood l.letters l.i
-
-abbrev pub decreases-loop-i : goal.decreases-loop-i
-decreases-loop-i l = l.last - l.i

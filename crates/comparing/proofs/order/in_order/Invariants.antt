@@ -1,13 +1,10 @@
 -- Eight letters stand as one letter would, their number: while both words have eight left, the order is that of what is left behind
 -- equal eights; then the tails decide.
 use mathlib.Core.Path.{◌≡◌}
-use Prim.Native.Nat.{◌-◌, ◌≤◌}
-use lib.ListN.{length, drop}
+use Prim.Native.Nat.{◌*◌}
+use lib.ListN.{drop}
 use Rattle.comparing.specs.Answers.{order_of}
 use Rattle.comparing.proofs.order.in_order.Given as goal
 
-abbrev pub invariant-loop-i : goal.invariant-loop-i
-invariant-loop-i l = (l.i ≤ length l.u) × (l.i ≤ length l.v) × (order_of l.u l.v ≡ order_of (drop l.i l.u) (drop l.i l.v))
-
-abbrev pub decreases-loop-i : goal.decreases-loop-i
-decreases-loop-i l = length l.u - l.i
+abbrev pub invariant-loop-k : goal.invariant-loop-k
+invariant-loop-k l = order_of l.u l.v ≡ order_of (drop (8 * l.k) l.u) (drop (8 * l.k) l.v)

@@ -1,11 +1,11 @@
 -- `back::rising_a` meets its contract: the number above is read before row b is filled, which may be filled over it.
-use Rattle.std.proofs.Common.{◌≡◌, ℕ, ◌+◌, ◌%◌, ◌^◌, ◌<◌, arith, rules}
+use Rattle.std.proofs.Common.{◌≡◌, ℕ, ◌+◌, ◌-◌, ◌%◌, ◌^◌, ◌<◌, arith, rules}
 use Rattle.counting.specs.BackLaws.{rising_is}
 use Rattle.counting.proofs.back.rising_a.Goals as goal
 
--- The number r that wraps back to x with y added, where x is y and more.
-unwrapped : (r x y k : ℕ) → (r + y) % 2 ^ 64 ≡ x → x ≡ k + y → r < 2 ^ 64 → r ≡ k
-unwrapped r x y k e d h = omega arith
+-- Taking y away wraps to k, where x is y and k more.
+unwrapped : (x y k : ℕ) → x ≡ k + y → x < 2 ^ 64 → (x + (2 ^ 64 - y)) % 2 ^ 64 ≡ k
+unwrapped x y k d h = omega arith
 
 pub overflow_add-above : goal.overflow_add-above
 overflow_add-above c =
@@ -23,8 +23,8 @@ pub fill_next-requires : goal.fill_next-requires
 fill_next-requires c =
     (c.requires.0, c.requires.2)
 
-pub overflow_add-place_of : goal.overflow_add-place_of
-overflow_add-place_of c =
+pub overflow_add-result : goal.overflow_add-result
+overflow_add-result c =
     omega (arith, c.place_of-2.ensures, c.requires.1)
 
 pub offset_bounds-scratch-place_of-2 : goal.offset_bounds-scratch-place_of-2
@@ -39,13 +39,9 @@ pub returns : goal.returns
 returns c =
     record {
       value = λ more can.
-          unwrapped _ _ _ _ c.wrapping_sub_u64.ensures.value
+          unwrapped _ _ _
           (rw (c.place_of-2.ensures, c.place_of.ensures)
           (rising_is c.requires.1 more can c.requires.0 c.fill_next.ensures.rows))
           (search rules);
       counts_filled = c.fill_next.ensures;
     }
-
-pub shape_of-scratch : goal.shape_of-scratch
-shape_of-scratch c =
-    (returns c).counts_filled.used.same

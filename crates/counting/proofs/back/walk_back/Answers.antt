@@ -1,8 +1,9 @@
 -- `back::walk_back` meets its contract: each turn passes the highest bit of what is left of the path, the letter where b rises last,
 -- and fills its row.
-use Rattle.std.proofs.Common.{◌≡◌, ℕ, suc, ◌+◌, ◌-◌, ◌/◌, ◌%◌, ◌^◌, ◌<◌, ◌≤◌, false, List, length, ◌∙◌, mod-eq_of_lt, arith, rules}
+use Rattle.std.proofs.Common.{◌≡◌, refl, ℕ, suc, ◌+◌, ◌-◌, ◌/◌, ◌%◌, ◌^◌, ◌<◌, ◌≤◌, false, List, length, ◌∙◌, mod-eq_of_lt, arith, rules}
 use mathlib.Core.List.{Memᴰ}
-use lib.Count.{ones, ones-le}
+use lib.Count.{ones}
+use Rattle.std.proofs.lemmas.Nat.{ones_le_self, zero_from_ones}
 use Rattle.chains.specs.Words.{Word}
 use Rattle.chains.specs.Listing.{list_of, count_before, ways}
 use Rattle.lent.specs.LentLaws.{used_none, used_on}
@@ -58,49 +59,44 @@ module _ {n path : ℕ} {entry scratch : List ℕ} {left row before bit below : 
           along = counted;
         }
 
--- Nothing is left of the path.
+-- What is left of the path has a one for each row that is left.
+some_left : (left row : ℕ) → row ≡ ones left → 0 < row → 0 < left
+some_left left row e h = omega (arith, e, ones_le_self left)
+
+-- No row is left, so nothing of the path.
 module _ {n path : ℕ} {entry scratch : List ℕ} {left row before : ℕ} (fits : n < 2 ^ 64)
-    (g : Going n path entry scratch left row before) (h : left ≤ 0) where
+    (g : Going n path entry scratch left row before) (h : row ≤ 0) where
   none : left ≡ 0
-  none = omega arith
+  none = zero_from_ones left (omega (arith, g.rises))
 
   bottom : CountsFilled n 0 entry scratch
   bottom =
-      let e : row ≡ 0 = g.rises ∙ rw none (omega (arith, ones-le 0 0 (omega arith))) in
+      let e : row ≡ 0 = omega arith in
       rw e at g.rows
 
   all_counted : (w : Word) → Memᴰ w (list_of n) → 0 < length w → path ≡ path_to w (length w - 1) → before ≡ count_before w (list_of n)
   all_counted w m l e = back_end fits m (rw none at (g.along w m l e))
 
-pub loop-left-init : goal.loop-left-init
-loop-left-init c =
-    begin (search rules) c.requires
+pub loop-row-init : goal.loop-row-init
+loop-row-init c = begin (search rules) c.requires
 
-pub overflow_sub-row : goal.overflow_sub-row
-overflow_sub-row c =
-    some_row {n = c.args.n} (search rules) c.loop-left.invariant c.top_of-top.ensures.0 c.top_of-top.ensures.1
+pub top_of-top-requires : goal.top_of-top-requires
+top_of-top-requires c = some_left _ _ c.loop-row.invariant.rises c.loop-row-test.true
 
 pub overflow_sub-top : goal.overflow_sub-top
-overflow_sub-top c =
-    column (search rules) c.loop-left.invariant c.top_of-top.ensures.0 c.top_of-top.ensures.1
+overflow_sub-top c = column (search rules) c.loop-row.invariant c.top_of-top.ensures.0 c.top_of-top.ensures.1
 
 pub rising_a-rising-requires : goal.rising_a-rising-requires
-rising_a-rising-requires c =
-    asked (search rules) c.loop-left.invariant c.top_of-top.ensures.0 c.top_of-top.ensures.1
+rising_a-rising-requires c = asked (search rules) c.loop-row.invariant c.top_of-top.ensures.0 c.top_of-top.ensures.1
 
-pub loop-left-smaller : goal.loop-left-smaller
-loop-left-smaller c =
-    omega (arith, some_row {n = c.args.n} (search rules) c.loop-left.invariant c.top_of-top.ensures.0 c.top_of-top.ensures.1)
-
-pub loop-left-preserved : goal.loop-left-preserved
-loop-left-preserved c =
-    more (search rules) c.loop-left.invariant c.top_of-top.ensures.0 c.top_of-top.ensures.1 c.rising_a-rising.ensures.value c.rising_a-rising.ensures.counts_filled
-    c.wrapping_add_u64-before.ensures.value
-
-pub shape_of-scratch : goal.shape_of-scratch
-shape_of-scratch c =
-    (bottom (search rules) c.loop-left.invariant c.loop-left-test.false).used.same
+pub loop-row-preserved : goal.loop-row-preserved
+loop-row-preserved c =
+    more (search rules) c.loop-row.invariant c.top_of-top.ensures.0 c.top_of-top.ensures.1 c.rising_a-rising.ensures.value
+    c.rising_a-rising.ensures.counts_filled refl
 
 pub returns : goal.returns
 returns c =
-    record { value = all_counted (search rules) c.loop-left.invariant c.loop-left-test.false; counts_filled = bottom (search rules) c.loop-left.invariant c.loop-left-test.false }
+    record {
+      value = all_counted (search rules) c.loop-row.invariant c.loop-row-test.false;
+      counts_filled = bottom (search rules) c.loop-row.invariant c.loop-row-test.false;
+    }

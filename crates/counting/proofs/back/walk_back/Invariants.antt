@@ -3,8 +3,5 @@
 use Rattle.counting.specs.Back.{Going}
 use Rattle.counting.proofs.back.walk_back.Given as goal
 
-abbrev pub invariant-loop-left : goal.invariant-loop-left
-invariant-loop-left l = Going l.n l.path l.initial.scratch l.scratch l.left l.row l.before
-
-abbrev pub decreases-loop-left : goal.decreases-loop-left
-decreases-loop-left l = l.row
+abbrev pub invariant-loop-row : goal.invariant-loop-row
+invariant-loop-row l = Going l.n l.path l.initial.scratch l.scratch l.left l.row l.before

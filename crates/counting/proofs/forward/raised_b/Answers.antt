@@ -36,7 +36,6 @@ overflow_mul-result-2 c =
     let at = 64 * c.args.b + 64 + c.args.a in
     omega (
       arith,
-      c.shared_slice_known-1.given at,
       times_low (get_or c.args.scratch.now at 0) _ (factor_low (c.args.rest % 3) c.args.free (omega arith) c.requires.flag).1,
     )
 

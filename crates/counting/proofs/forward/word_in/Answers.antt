@@ -1,19 +1,17 @@
 -- `forward::word_in` meets its contract: at each turn the walk passes a letter of the word, in rows that are there.
 use Rattle.std.proofs.Common.{arith, rules}
-use Rattle.lent.specs.LentLaws.{used_none, used_on}
 use Rattle.counting.specs.ForwardLaws.{word_none, word_start, word_end, passed_low, shifted, shifted_fits, rows_start, same_passed}
 use Rattle.counting.proofs.forward.word_in.Goals as goal
 
 pub returns-then-n-eq0 : goal.returns-then-n-eq0
 returns-then-n-eq0 c =
-    record { found = word_none _ _ c.if-n-eq0.true; only_first = used_none }
+    word_none _ _ c.if-n-eq0.true
 
 pub loop-w-init : goal.loop-w-init
 loop-w-init c =
     record {
       passed = word_start (omega (arith, c.if-n-eq0.false)) c.requires.number c.requires.within;
       rows = rows_start c.requires.rows (search rules);
-      used = used_none;
     }
 
 pub with_rows-w-requires : goal.with_rows-w-requires
@@ -22,7 +20,7 @@ with_rows-w-requires c =
 
 pub step-w-requires : goal.step-w-requires
 step-w-requires c =
-    let (rows, inside, same) = c.with_rows-w.ensures.rows_for in
+    let (rows, inside, same) = c.with_rows-w.ensures in
     record {
       passed = same_passed c.loop-w.invariant.passed same;
       rows = rows;
@@ -43,7 +41,6 @@ loop-w-preserved c =
     record {
       passed = c.step-w.ensures.0;
       rows = c.step-w.ensures.1;
-      used = used_on c.loop-w.invariant.used c.with_rows-w.ensures.only_first;
     }
 
 pub overflow_shl-result : goal.overflow_shl-result
@@ -64,12 +61,8 @@ overflow_add-result-2 c =
     let p = c.loop-w.invariant.passed in
     record { fits = shifted_fits {y = 1} p.marks_low (omega arith) (passed_low p (search rules)) }
 
-pub shape_of-scratch : goal.shape_of-scratch
-shape_of-scratch c =
-    c.loop-w.invariant.used.same
-
 pub returns : goal.returns
 returns c =
     let g = c.loop-w.invariant in
     let last = passed_low g.passed (search rules) in
-    rw (shifted {y = 1} g.passed.rises_low (omega arith) last) (record { found = word_end g.passed c.loop-w-test.false; only_first = g.used })
+    rw (shifted {y = 1} g.passed.rises_low (omega arith) last) (word_end g.passed c.loop-w-test.false)

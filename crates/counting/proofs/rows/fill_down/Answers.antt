@@ -18,29 +18,24 @@ more {i = i} k f h g =
     let e : max (i - 1) k ≡ i - 1 = omega arith in
     rw e (record { rows = g.rows; used = used_on f.used g.used })
 
-pub loop-i-init : goal.loop-i-init
-loop-i-init c =
-    let l = c.args.scratch.now in
-    let r = c.put_rests-i.ensures in (
-      record { rows = (rows_begin 0 6 count_cell (omega arith) l c.requires (search rules) r.value r.part_after (max c.put_rests-i.result c.args.k) (omega arith)).rows; used = used_none },
-      rows_few 0 6 count_cell (omega arith) l c.requires (search rules) r.value r.part_after,
-    )
+pub loop-b-init : goal.loop-b-init
+loop-b-init c =
+    let r = c.put_rests-rows.ensures in
+    record { rows = (rows_begin 0 6 count_cell (omega arith) c.args.scratch.now (omega arith) (search rules) r.value r.part_after (max c.put_rests-rows.result c.args.k) (omega arith)).rows; used = used_none }
 
 pub fill_next-requires : goal.fill_next-requires
 fill_next-requires c =
-    next _ c.loop-i.invariant.0 c.loop-i.invariant.1 c.loop-i-test.true
+    let r = c.put_rests-rows.ensures in
+    next _ c.loop-b.invariant
+    (omega (arith, c.loop-b.auto.b, rows_few 0 6 count_cell (omega arith) c.args.scratch.now (omega arith) (search rules) r.value r.part_after))
+    c.loop-b-test.true
 
-pub loop-i-preserved : goal.loop-i-preserved
-loop-i-preserved c =
-    (more _ c.loop-i.invariant.0 c.loop-i-test.true c.fill_next.ensures, omega (arith, c.loop-i.invariant.1))
+pub loop-b-preserved : goal.loop-b-preserved
+loop-b-preserved c = more _ c.loop-b.invariant c.loop-b-test.true c.fill_next.ensures
 
 pub returns : goal.returns
 returns c =
-    let r = c.put_rests-i.ensures in
-    let f = rows_begin 0 6 count_cell (omega arith) c.args.scratch.now c.requires (search rules) r.value r.part_after c.put_rests-i.result (omega arith) in
-    let e : max c.loop-i.i c.args.k ≡ c.args.k = omega arith in
-    record { rows = rw e at c.loop-i.invariant.0.rows; used = used_on f.used c.loop-i.invariant.0.used }
-
-pub shape_of-scratch : goal.shape_of-scratch
-shape_of-scratch c =
-    (returns c).used.same
+    let r = c.put_rests-rows.ensures in
+    let f = rows_begin 0 6 count_cell (omega arith) c.args.scratch.now (omega arith) (search rules) r.value r.part_after c.put_rests-rows.result (omega arith) in
+    let e : max c.loop-b.b c.args.k ≡ c.args.k = omega arith in
+    record { rows = rw e at c.loop-b.invariant.rows; used = used_on f.used c.loop-b.invariant.used }

@@ -99,43 +99,19 @@ bounds-part-up c =
 
 pub overflow_mul-right : goal.overflow_mul-right
 overflow_mul-right c =
-    omega (
-      arith,
-      (let no_wrap : free_at c.ones-ones.result c.zeros-zeros.result
-          c.args.up
-          c.loop-a.part c.loop-a.right (c.loop-a.a - 1) < 2 ^ 64 = below c.requires c.loop-a.invariant c.loop-a-test.true (search rules) c.ones-ones.ensures
-          c.zeros-zeros.ensures in no_wrap),
-    )
+    omega (arith, below c.requires c.loop-a.invariant c.loop-a-test.true (search rules) c.ones-ones.ensures c.zeros-zeros.ensures)
 
 pub overflow_add-right : goal.overflow_add-right
 overflow_add-right c =
-    omega (
-      arith,
-      (let no_wrap : free_at c.ones-ones.result c.zeros-zeros.result
-          c.args.up
-          c.loop-a.part c.loop-a.right (c.loop-a.a - 1) < 2 ^ 64 = below c.requires c.loop-a.invariant c.loop-a-test.true (search rules) c.ones-ones.ensures
-          c.zeros-zeros.ensures in no_wrap),
-    )
+    omega (arith, below c.requires c.loop-a.invariant c.loop-a-test.true (search rules) c.ones-ones.ensures c.zeros-zeros.ensures)
 
 pub overflow_mul-part : goal.overflow_mul-part
 overflow_mul-part c =
-    omega (
-      arith,
-      (let no_wrap : free_at c.ones-ones.result c.zeros-zeros.result
-          c.args.up
-          c.loop-a.part c.loop-a.right (c.loop-a.a - 1) < 2 ^ 64 = below c.requires c.loop-a.invariant c.loop-a-test.true (search rules) c.ones-ones.ensures
-          c.zeros-zeros.ensures in no_wrap),
-    )
+    omega (arith, below c.requires c.loop-a.invariant c.loop-a-test.true (search rules) c.ones-ones.ensures c.zeros-zeros.ensures)
 
 pub overflow_add-part : goal.overflow_add-part
 overflow_add-part c =
-    omega (
-      arith,
-      (let no_wrap : free_at c.ones-ones.result c.zeros-zeros.result
-          c.args.up
-          c.loop-a.part c.loop-a.right (c.loop-a.a - 1) < 2 ^ 64 = below c.requires c.loop-a.invariant c.loop-a-test.true (search rules) c.ones-ones.ensures
-          c.zeros-zeros.ensures in no_wrap),
-    )
+    omega (arith, below c.requires c.loop-a.invariant c.loop-a-test.true (search rules) c.ones-ones.ensures c.zeros-zeros.ensures)
 
 pub loop-a-preserved : goal.loop-a-preserved
 loop-a-preserved c =

@@ -18,6 +18,3 @@ pub record Filling (b m up : ℕ) (entry part : List ℕ) (right a : ℕ) : Type
 
 abbrev pub invariant-loop-a : goal.invariant-loop-a
 invariant-loop-a l = Filling l.b l.m l.up l.initial.part l.part l.right l.a
-
-abbrev pub decreases-loop-a : goal.decreases-loop-a
-decreases-loop-a l = l.a

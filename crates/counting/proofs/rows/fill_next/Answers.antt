@@ -1,5 +1,5 @@
 -- `rows::fill_next` meets its contract: row k's part of the scratch is lent on, with the row above where it stands.
-use Rattle.std.proofs.Common.{arith}
+use Rattle.std.proofs.Common.{◌≡◌, ◌-◌, ◌*◌, length, arith}
 use Rattle.grid.specs.Fill.{row_lent, row_more}
 use Rattle.counting.specs.Table.{count_cell}
 use Rattle.counting.proofs.rows.fill_next.Goals as goal
@@ -22,11 +22,13 @@ slice_bounds-fill_row-start c =
 
 pub fill_row-requires : goal.fill_row-requires
 fill_row-requires c =
-    row_lent 0 6 count_cell (omega arith) c.requires.0 c.requires.1 (omega arith) (omega arith)
+    let e : 512 - 64 * c.args.k ≡ length c.args.scratch.now - 64 * c.args.k = omega arith in
+    rw e (row_lent 0 6 count_cell (omega arith) c.requires.0 c.requires.1 (omega arith) (omega arith))
 
 pub returns-then-k-lt6 : goal.returns-then-k-lt6
 returns-then-k-lt6 c =
-    row_more 0 6 count_cell (omega arith) c.requires.0 c.requires.1 (omega arith) c.fill_row.ensures
+    let e : 512 - 64 * c.args.k ≡ length c.args.scratch.now - 64 * c.args.k = omega arith in
+    rw e (row_more 0 6 count_cell (omega arith) c.requires.0 c.requires.1 (omega arith) (rw e at c.fill_row.ensures))
 
 pub slice_bounds-fill_row-count-2 : goal.slice_bounds-fill_row-count-2
 slice_bounds-fill_row-count-2 c =
@@ -38,16 +40,10 @@ slice_bounds-fill_row-start-2 c =
 
 pub fill_row-requires-2 : goal.fill_row-requires-2
 fill_row-requires-2 c =
-    row_lent 0 6 count_cell (omega arith) c.requires.0 c.requires.1 (omega arith) (omega arith)
+    let e : 128 ≡ length c.args.scratch.now - 384 = omega arith in
+    rw e (row_lent 0 6 count_cell (omega arith) {here = 384} c.requires.0 c.requires.1 (omega arith) (omega arith))
 
 pub returns : goal.returns
 returns c =
-    row_more 0 6 count_cell (omega arith) c.requires.0 c.requires.1 (omega arith) c.fill_row-2.ensures
-
-pub shape_of-scratch-then-k-lt6 : goal.shape_of-scratch-then-k-lt6
-shape_of-scratch-then-k-lt6 c =
-    (returns-then-k-lt6 c).used.same
-
-pub shape_of-scratch : goal.shape_of-scratch
-shape_of-scratch c =
-    (returns c).used.same
+    let e : 128 ≡ length c.args.scratch.now - 384 = omega arith in
+    rw (← e) at (row_more 0 6 count_cell (omega arith) {here = 384} c.requires.0 c.requires.1 (omega arith) (rw e at c.fill_row-2.ensures))

@@ -8,7 +8,7 @@ use Rattle.frames.proofs.put.put_chain.Goals as goal
 
 pub put_record-requires : goal.put_record-requires
 put_record-requires c =
-    (omega (arith, length_head c.args.n c.args.position), c.requires.2)
+    (omega (arith, length_head c.args.n c.args.position), c.requires.1)
 
 pub returns : goal.returns
 unfolding chain_digits

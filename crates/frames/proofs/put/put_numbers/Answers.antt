@@ -1,31 +1,20 @@
--- `put_numbers` leaves the digits of the numbers one after the other: after i turns those of the first i stand. The measure is the
--- number that is left.
-use mathlib.Core.Path.{refl}
+-- `put_numbers` leaves the digits of the numbers one after the other: after i turns those of the first i stand.
 use native.Mathlib.Omega.{arith}
 use borrow.Author.Rules.{rules}
 use Rattle.frames.proofs.Values.{none_written, one_written, all_written}
 use Rattle.frames.proofs.put.put_numbers.Goals as goal
 
-pub loop-i-init : goal.loop-i-init
-loop-i-init c = (search rules, search rules, refl, none_written 2 _ _ _)
+pub loop-number-init : goal.loop-number-init
+loop-number-init c = (search rules, none_written 2 _ _ _)
 
-pub overflow_cast-numbers : goal.overflow_cast-numbers
-overflow_cast-numbers c =
-    omega (arith, c.shared_slice_known-in-loop-i-1.given c.loop-i.i)
-
-pub loop-i-preserved : goal.loop-i-preserved
-loop-i-preserved c =
-    let l = c.loop-i in (
-      search rules,
-      search rules,
-      search rules,
-      one_written 2 _ _ _ _ _ _ _ _ (omega arith) (omega arith) l.invariant.3 c.put_at-end.ensures.value
-          c.put_at-end.ensures.out_after,
-    )
+pub loop-number-preserved : goal.loop-number-preserved
+loop-number-preserved c = (
+  search rules,
+  one_written 2 _ _ _ _ _ _ _ _ (omega arith) (omega arith) c.loop-number.invariant.1 c.put_at-end.ensures.value
+      (rw c.from.ensures at c.put_at-end.ensures.out_after),
+)
 
 pub returns : goal.returns
 returns c =
-    let told = (let l = c.loop-i in
-    let numbers = c.args.numbers.now in
-    all_written 2 _ numbers _ _ _ l.i (omega arith) l.invariant.3) in
+    let told = all_written 2 _ c.args.numbers.now _ _ _ c.loop-number.number-index (omega arith) c.loop-number.invariant.1 in
     record { value = told.0; out_after = told.1 }

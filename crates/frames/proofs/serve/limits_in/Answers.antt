@@ -4,7 +4,8 @@ use mathlib.Core.List.{List}
 use Prim.Native.Nat.{ℕ, ◌+◌, ◌*◌, ◌/◌, ◌%◌, ◌^◌}
 use native.Mathlib.Omega.{arith}
 use lib.ListN.{length}
-use Rattle.lines.specs.Kinds.{row_of, best_line}
+use Rattle.lines.specs.Kinds.{row_of}
+use Rattle.lines.specs.declared.Kind.TheVariants.{Best as best_line}
 use Rattle.lines.specs.Lines.{field, bytes_in, Fit}
 use Rattle.lines.proofs.LineLaws.{field_split, field_below}
 use Rattle.frames.specs.Replies.{limits_in}

@@ -1,6 +1,7 @@
 -- `run_in` hands on the items of the line.
 use native.Mathlib.Omega.{arith}
-use Rattle.lines.specs.Kinds.{run_line, row_of}
+use Rattle.lines.specs.Kinds.{row_of}
+use Rattle.lines.specs.declared.Kind.TheVariants.{Run as run_line}
 use Rattle.frames.specs.Replies.{served}
 use Rattle.frames.proofs.CallLaws.{read_room, read_all}
 use Rattle.frames.proofs.serve.run_in.Goals as goal

@@ -1,5 +1,5 @@
 -- `serve_refusal` zeroes the scratch and tells the number.
-use mathlib.Core.Path.{◌∙◌}
+use Rattle.std.proofs.Common.{◌∙◌, arith}
 use Rattle.lent.specs.LentLaws.{served_zeroed}
 use Rattle.frames.proofs.serve.serve_refusal.Goals as goal
 
@@ -7,5 +7,5 @@ pub returns : goal.returns
 returns c =
     record {
       told = c.tell_refusal.ensures;
-      zeroed = c.clear_scratch.ensures ∙ served_zeroed _ c.requires.numbers;
+      zeroed = c.clear_scratch.ensures ∙ served_zeroed {size = 512} c.args.scratch.now (omega arith);
     }

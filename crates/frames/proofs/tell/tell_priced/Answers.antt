@@ -11,13 +11,13 @@ pub put_price-end-requires : goal.put_price-end-requires
 put_price-end-requires c =
     let a = c.args in
     let long = length_chain a.n a.position a.numbers.now in
-    (omega arith, omega arith)
+    omega arith
 
 pub fill-requires : goal.fill-requires
 fill-requires c =
     let a = c.args in
     let long = length_chain a.n a.position a.numbers.now in
-    (omega arith, omega arith)
+    omega arith
 
 pub returns : goal.returns
 unfolding priced_digits

@@ -3,5 +3,5 @@ use Rattle.std.proofs.Common.{rules}
 use Rattle.intake.specs.ConsoleLaws.{zeros_alone}
 use Rattle.intake.proofs.console.answer_input.Goals as goal
 
-pub answer_all-requires : goal.answer_all-requires
-answer_all-requires c = record { enough = search rules; alone = zeros_alone 515 }
+pub invariant_of-memory : goal.invariant_of-memory
+invariant_of-memory c = record { ready = record { enough = search rules; alone = zeros_alone 515 } }

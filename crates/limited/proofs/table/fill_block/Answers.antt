@@ -1,62 +1,21 @@
--- `fill_block` fills its block: with counts, or with keys where the point is within the limits.
-use mathlib.Core.Logic.{inl, inr}
-use native.Mathlib.Omega.{arith}
-use Rattle.limited.specs.Cells.{cell_in}
-use Rattle.limited.specs.CountCells.{count_asked}
-use Rattle.limited.specs.KeyCells.{outside_filled, key_asked}
+-- `fill_block` fills its block: at each turn the cells for fewer than k parts are right.
+use Rattle.std.proofs.Common.{◌≡◌, suc, add-one, arith}
+use Rattle.limited.specs.TableLaws.{filled_more, cell_still}
 use Rattle.limited.proofs.table.fill_block.Goals as goal
 
-pub fill_counts-requires : goal.fill_counts-requires
-fill_counts-requires c =
-    count_asked c.if-counting.true c.requires
+pub cell-cell-requires : goal.cell-cell-requires
+cell-cell-requires g c =
+    cell_still _ c.requires c.loop-k.invariant (omega arith)
 
-pub shape_of-part-then-counting : goal.shape_of-part-then-counting
-shape_of-part-then-counting c =
-    c.fill_counts.ensures.same
+pub loop-k-preserved : goal.loop-k-preserved
+loop-k-preserved g c =
+    let e = c.cell-cell.ensures in
+    let p = c.requires in
+    rw add-one (filled_more (omega (arith, p.few)) p.lent.room e.free e.after_a c.loop-k.invariant)
 
-pub returns-then-counting : goal.returns-then-counting
-unfolding cell_in
-returns-then-counting c =
-    rw c.if-counting.true c.fill_counts.ensures
-
-pub fill_none-requires : goal.fill_none-requires
-fill_none-requires c =
-    (c.requires.lent.room, c.requires.few)
-
-pub shape_of-part-then-a-doublings : goal.shape_of-part-then-a-doublings
-shape_of-part-then-a-doublings c =
-    c.fill_none.ensures.same
-
-pub returns-then-a-doublings : goal.returns-then-a-doublings
-unfolding cell_in
-returns-then-a-doublings c =
-    rw c.if-counting.false
-    (outside_filled _ _ _ _ _ _ c.requires.some_left (inl c.if-a-doublings.true) c.fill_none.ensures)
-
-pub fill_none-requires-then-b-triplings : goal.fill_none-requires-then-b-triplings
-fill_none-requires-then-b-triplings c =
-    (c.requires.lent.room, c.requires.few)
-
-pub shape_of-part-then-b-triplings : goal.shape_of-part-then-b-triplings
-shape_of-part-then-b-triplings c =
-    c.fill_none-then-b-triplings.ensures.same
-
-pub returns-then-b-triplings : goal.returns-then-b-triplings
-unfolding cell_in
-returns-then-b-triplings c =
-    rw c.if-counting.false
-    (outside_filled _ _ _ _ _ _ c.requires.some_left (inr c.if-b-triplings.true) c.fill_none-then-b-triplings.ensures)
-
-pub fill_keys-requires : goal.fill_keys-requires
-fill_keys-requires c =
-    key_asked c.if-counting.false (omega (arith, c.if-a-doublings.false)) (omega (arith, c.if-b-triplings.false))
-    c.requires
-
-pub shape_of-part : goal.shape_of-part
-shape_of-part c =
-    c.fill_keys.ensures.same
-
-pub returns : goal.returns
-unfolding cell_in
-returns c =
-    rw c.if-counting.false c.fill_keys.ensures
+pub returns-2 : goal.returns-2
+returns-2 g c =
+    let e = c.cell-cell.ensures in
+    let p = c.requires in
+    let last : suc c.args.most ≡ suc c.loop-k.k = omega arith in
+    rw last (filled_more (omega (arith, p.few)) p.lent.room e.free e.after_a c.loop-k.invariant)

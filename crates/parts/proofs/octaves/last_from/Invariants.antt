@@ -1,6 +1,5 @@
 -- `last_from` meets its contract. The loop's invariant: what is found in the octaves that are left is what is found in all.
-use mathlib.Core.Path.{◌≡◌}
-use Prim.Native.Nat.{ℕ, ◌+◌, ◌*◌, ◌≤◌}
+use Rattle.std.proofs.Common.{◌≡◌, ℕ, ◌+◌, ◌-◌, ◌*◌, ◌≤◌}
 use Rattle.parts.specs.Octaves.{last_of, last_from}
 use Rattle.parts.proofs.octaves.last_from.Given as goal
 
@@ -9,8 +8,5 @@ pub record Tried (first step number l next left : ℕ) : Type 0 where
   pub low : next + 8 * left ≤ 120
   pub found : last_of left step number next l ≡ last_from first step number
 
-abbrev pub invariant-loop-left : goal.invariant-loop-left
-invariant-loop-left l = Tried l.first l.step l.number l.l l.next l.left
-
-abbrev pub decreases-loop-left : goal.decreases-loop-left
-decreases-loop-left l = l.left
+abbrev pub invariant-loop : goal.invariant-loop
+invariant-loop l = Tried l.first l.step l.number l.l l.next (7 - l.counter)

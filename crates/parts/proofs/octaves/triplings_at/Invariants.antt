@@ -1,6 +1,5 @@
 -- `triplings_at` meets its contract. The loop's invariant: what is found in the groups that are left is what is found in all.
-use mathlib.Core.Path.{◌≡◌}
-use Prim.Native.Nat.{ℕ, ◌+◌, ◌*◌, ◌≤◌, ◌<◌}
+use Rattle.std.proofs.Common.{◌≡◌, ℕ, ◌+◌, ◌-◌, ◌*◌, ◌≤◌, ◌<◌}
 use Rattle.parts.specs.Octaves.{in_groups, triplings_at}
 use Rattle.parts.proofs.octaves.triplings_at.Given as goal
 
@@ -10,8 +9,5 @@ pub record Tried (most j b r start left : ℕ) : Type 0 where
   pub low : start + 4 * left ≤ 48
   pub found : in_groups left most j r start b ≡ triplings_at most j
 
-abbrev pub invariant-loop-left : goal.invariant-loop-left
-invariant-loop-left l = Tried l.most l.j l.b l.r l.start l.left
-
-abbrev pub decreases-loop-left : goal.decreases-loop-left
-decreases-loop-left l = l.left
+abbrev pub invariant-loop : goal.invariant-loop
+invariant-loop l = Tried l.most l.j l.b l.r l.start (12 - l.counter)

@@ -1,24 +1,22 @@
 -- `giving::give_word` meets its contract: a word stands in the list at its own position.
-use mathlib.Core.Path.{◌∙◌}
-use Rattle.lent.specs.LentLaws.{served_zeroed}
+use Rattle.std.proofs.Common.{sym, ◌∙◌}
+use Rattle.std.proofs.Math.Nat.{le_of_eq}
 use Rattle.counting.specs.RankedLaws.{told_before}
-use Rattle.ranking.proofs.Answers.{told_position, told_refusal, held_at}
+use Rattle.ranking.proofs.Answers.{all_zeroed, told_position, told_refusal, held_at}
 use Rattle.ranking.proofs.giving.give_word.Goals as goal
 
-pub returns-in_default : goal.returns-in_default
-returns-in_default c =
-    let a = c.args in
-    let h = c.requires.0 in record { given = (λ w t. absurd (told_refusal a.n w (told_before h w t.member t.rising c.position_of.ensures.position_told) c.in_default.is)); scratch_after = c.position_of.ensures.scratch_after ∙ served_zeroed _ h }
-
-pub give_parts-requires : goal.give_parts-requires
-give_parts-requires c =
-    c.requires.1
+pub returns-in_err-position : goal.returns-in_err-position
+returns-in_err-position c =
+    let h = le_of_eq (sym c.told-scratch) in record {
+      given = λ w t. absurd (told_refusal c.args.n w (told_before h w t.member t.rising c.position_of.ensures.position_told) c.in_err-position.was);
+      scratch_after = c.position_of.ensures.scratch_after ∙ all_zeroed _ c.told-scratch;
+    }
 
 pub returns : goal.returns
 returns c =
-    let a = c.args in
-    let h = c.requires.0 in record {
-      given = (λ w t. let e = told_position a.n w (told_before h w t.member t.rising c.position_of.ensures.position_told) c.in-Count.is in
-          rw (← e) (c.give_parts.ensures (rw e (held_at _ t.member t))));
-      scratch_after = c.position_of.ensures.scratch_after ∙ served_zeroed _ h;
+    let h = le_of_eq (sym c.told-scratch) in record {
+      given = λ w t.
+          let e = told_position c.args.n w (told_before h w t.member t.rising c.position_of.ensures.position_told) c.in_ok-position.was in
+          rw (← e) (c.give_parts.ensures (rw e (held_at _ t.member t)));
+      scratch_after = c.position_of.ensures.scratch_after ∙ all_zeroed _ c.told-scratch;
     }

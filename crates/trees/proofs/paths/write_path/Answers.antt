@@ -137,107 +137,33 @@ module _ {w : Word} {path : List ℕ} {size owed j : ℕ} (i : ℕ) (c : Walk w 
         let r : j < size = omega (arith, last.count, last.room) in
         (r, last.count, rw (add-one, take-suc-set path j 3 (omega (arith, c.same))) last.whole)
 
-pub loop-i-init : goal.loop-i-init
-loop-i-init c =
-    begin _ _ c.requires
-
-pub overflow_mul-path : goal.overflow_mul-path
-overflow_mul-path c =
-    omega (
-      arith,
-      (let known : let t = c.loop-i in
-          Bounds (length c.args.path.now) (get_or c.args.letters.now t.i 0) t.owed t.j = bounds c.loop-i.i c.loop-i.invariant c.loop-i-test.true in known),
-    )
-
-pub overflow_cast-path : goal.overflow_cast-path
-overflow_cast-path c =
-    omega (
-      arith,
-      (let known : let t = c.loop-i in
-          Bounds (length c.args.path.now) (get_or c.args.letters.now t.i 0) t.owed t.j = bounds c.loop-i.i c.loop-i.invariant c.loop-i-test.true in known),
-    )
-
-pub overflow_add-path : goal.overflow_add-path
-overflow_add-path c =
-    omega (
-      arith,
-      (let known : let t = c.loop-i in
-          Bounds (length c.args.path.now) (get_or c.args.letters.now t.i 0) t.owed t.j = bounds c.loop-i.i c.loop-i.invariant c.loop-i-test.true in known),
-    )
+pub loop-letter-init : goal.loop-letter-init
+loop-letter-init c = begin _ _ c.requires
 
 pub bounds-path-j : goal.bounds-path-j
 bounds-path-j c =
-    omega (
-      arith,
-      (let known : let t = c.loop-i in
-          Bounds (length c.args.path.now) (get_or c.args.letters.now t.i 0) t.owed t.j = bounds c.loop-i.i c.loop-i.invariant c.loop-i-test.true in known),
-      c.loop-i.invariant.same,
-    )
-
-pub overflow_cast-point : goal.overflow_cast-point
-overflow_cast-point c =
-    omega (
-      arith,
-      (let known : let t = c.loop-i in
-          Bounds (length c.args.path.now) (get_or c.args.letters.now t.i 0) t.owed t.j = bounds c.loop-i.i c.loop-i.invariant c.loop-i-test.true in known),
-    )
-
-pub overflow_add-owed : goal.overflow_add-owed
-overflow_add-owed c =
-    omega (
-      arith,
-      (let known : let t = c.loop-i in
-          Bounds (length c.args.path.now) (get_or c.args.letters.now t.i 0) t.owed t.j = bounds c.loop-i.i c.loop-i.invariant c.loop-i-test.true in known),
-    )
-
-pub nonzero_div-owed : goal.nonzero_div-owed
-nonzero_div-owed c =
-    omega (
-      arith,
-      (let known : let t = c.loop-i in
-          Bounds (length c.args.path.now) (get_or c.args.letters.now t.i 0) t.owed t.j = bounds c.loop-i.i c.loop-i.invariant c.loop-i-test.true in known),
-    )
+    let t = c.loop-letter in omega (arith, (bounds t.letter-index t.invariant c.loop-letter-test.true).room, t.invariant.same)
 
 pub overflow_sub-owed : goal.overflow_sub-owed
 overflow_sub-owed c =
-    omega (
-      arith,
-      (let known : let t = c.loop-i in
-          Bounds (length c.args.path.now) (get_or c.args.letters.now t.i 0) t.owed t.j = bounds c.loop-i.i c.loop-i.invariant c.loop-i-test.true in known),
-    )
+    let t = c.loop-letter in omega (arith, (bounds t.letter-index t.invariant c.loop-letter-test.true).high)
 
-pub overflow_add-owed-in-loop-i : goal.overflow_add-owed-in-loop-i
-overflow_add-owed-in-loop-i c =
-    omega (
-      arith,
-      (let known : let t = c.loop-i in
-          Bounds (length c.args.path.now) (get_or c.args.letters.now t.i 0) t.owed t.j = bounds c.loop-i.i c.loop-i.invariant c.loop-i-test.true in known),
-    )
-
-pub overflow_add-j : goal.overflow_add-j
-overflow_add-j c =
-    omega (
-      arith,
-      (let known : let t = c.loop-i in
-          Bounds (length c.args.path.now) (get_or c.args.letters.now t.i 0) t.owed t.j = bounds c.loop-i.i c.loop-i.invariant c.loop-i-test.true in known),
-    )
-
-pub loop-i-preserved : goal.loop-i-preserved
-loop-i-preserved c =
-    let t = c.loop-i in next t.i t.invariant c.loop-i-test.true
+pub loop-letter-preserved : goal.loop-letter-preserved
+loop-letter-preserved c =
+    let t = c.loop-letter in rw c.from-point.ensures (next t.letter-index t.invariant c.loop-letter-test.true)
 
 pub bounds-path-j-2 : goal.bounds-path-j-2
 bounds-path-j-2 c =
-    let t = c.loop-i in omega (arith, (at_end t.i t.invariant c.loop-i-test.false).0, t.invariant.same)
+    let t = c.loop-letter in omega (arith, (at_end t.letter-index t.invariant c.loop-letter-test.false).0, t.invariant.same)
 
 pub overflow_add-result : goal.overflow_add-result
 overflow_add-result c =
-    let t = c.loop-i in omega (arith, (at_end t.i t.invariant c.loop-i-test.false).0)
+    let t = c.loop-letter in omega (arith, (at_end t.letter-index t.invariant c.loop-letter-test.false).0)
 
 pub shape_of-path : goal.shape_of-path
 shape_of-path c =
-    length-set c.loop-i.path _ _ ∙ c.loop-i.invariant.same
+    length-set c.loop-letter.path _ _ ∙ c.loop-letter.invariant.same
 
 pub returns : goal.returns
 returns c =
-    let t = c.loop-i in let e = at_end t.i t.invariant c.loop-i-test.false in record { value = e.1; path_after = e.2 }
+    let t = c.loop-letter in let e = at_end t.letter-index t.invariant c.loop-letter-test.false in record { value = e.1; path_after = e.2 }

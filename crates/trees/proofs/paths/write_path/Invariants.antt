@@ -2,7 +2,7 @@
 -- What is left is produced from some number, and what is owed there is one of the cases of `Owed`.
 use mathlib.Core.Path.{◌≡◌}
 use mathlib.Core.List.{List, ◌++◌}
-use Prim.Native.Nat.{ℕ, ◌+◌, ◌-◌, ◌≤◌}
+use Prim.Native.Nat.{ℕ, ◌+◌, ◌≤◌}
 use lib.Dec.{T}
 use lib.ListN.{length, take, drop}
 use Rattle.chains.specs.Words.{Word}
@@ -23,8 +23,5 @@ pub record Walk (w v : Word) (path : List ℕ) (size owed j : ℕ) : Type 0 wher
   pub room : length (path_from 0 w) ≤ size
   pub whole : take j path ++ path_from owed v ≡ path_from 0 w
 
-abbrev pub invariant-loop-i : goal.invariant-loop-i
-invariant-loop-i l = Walk l.letters (drop l.i l.letters) l.path (length l.initial.path) l.owed l.j
-
-abbrev pub decreases-loop-i : goal.decreases-loop-i
-decreases-loop-i l = length l.letters - l.i
+abbrev pub invariant-loop-letter : goal.invariant-loop-letter
+invariant-loop-letter l = Walk l.letters (drop l.letter-index l.letters) l.path (length l.initial.path) l.owed l.j

@@ -63,28 +63,10 @@ module _ {w : Word} {s places : List ℕ} {n x j : ℕ} (c : Wrote w s places n 
       (sym c.long ∙ ap length all, c.stored ∙ ap (λ (y : List ℕ). y ++ drop j s) all)
 
 pub loop-n-init : goal.loop-n-init
-loop-n-init c =
-    begin _ _ _ c.requires
+loop-n-init c = begin _ _ _ c.requires
 
 pub bounds-places-j : goal.bounds-places-j
-bounds-places-j c =
-    (let spaced : let t = c.loop-n in t.j < length t.places = space c.loop-n.invariant c.loop-n-test.true c.letter_at-letter.result c.letter_at-letter.ensures.0 in spaced)
-
-pub number_after-n-requires : goal.number_after-n-requires
-number_after-n-requires c =
-    (c.letter_at-letter.ensures.1, c.loop-n-test.true)
-
-pub overflow_shr-path : goal.overflow_shr-path
-overflow_shr-path c =
-    omega (arith, c.letter_at-letter.ensures.2)
-
-pub overflow_add-j : goal.overflow_add-j
-overflow_add-j c =
-    omega (arith, (let spaced : let t = c.loop-n in t.j < length t.places = space c.loop-n.invariant c.loop-n-test.true c.letter_at-letter.result c.letter_at-letter.ensures.0 in spaced), same c.loop-n.invariant)
-
-pub loop-n-smaller : goal.loop-n-smaller
-loop-n-smaller c =
-    c.number_after-n.ensures.1
+bounds-places-j c = space c.loop-n.invariant c.loop-n-test.true c.letter_at-letter.result c.letter_at-letter.ensures.0
 
 pub loop-n-preserved : goal.loop-n-preserved
 loop-n-preserved c =

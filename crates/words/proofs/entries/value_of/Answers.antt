@@ -12,7 +12,7 @@ low i h p e = omega (arith, ap value e, part_value i h, part_below i h)
 
 pub value_at-requires : goal.value_at-requires
 value_at-requires c =
-    (c.requires.1, low _ c.requires.2 _ c.part_of.ensures)
+    low _ c.requires _ c.part_of.ensures
 
 pub returns : goal.returns
 returns c =

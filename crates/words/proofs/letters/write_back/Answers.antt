@@ -49,7 +49,7 @@ loop-i-init c =
 
 pub part_of-q-requires : goal.part_of-q-requires
 part_of-q-requires c =
-    (c.loop-i.invariant.0.is_codes, number_known _ _ c.loop-i.invariant.0.known c.loop-i-test.true)
+    number_known _ _ c.loop-i.invariant.0.known c.loop-i-test.true
 
 pub write_marked-requires : goal.write_marked-requires
 write_marked-requires c =

@@ -1,7 +1,7 @@
 -- The largest part's letter and the zeros behind it are the end of the places; the walk back puts the rest of the word before them.
 use mathlib.Core.Path.{◌≡◌, refl, sym, ap, ap₂, ◌∙◌}
 use mathlib.Core.List.{List, [], ◌∷◌, ◌++◌, append_assoc}
-use Prim.Native.Nat.{ℕ, ◌+◌, ◌-◌, ◌<◌}
+use Prim.Native.Nat.{ℕ, ◌+◌, ◌-◌, ◌≤◌, ◌<◌}
 use native.Mathlib.Omega.{arith}
 use lib.ListN.{length, drop, get_or, set, replicate, length-set}
 use Rattle.chains.specs.Chains.{Part}
@@ -9,9 +9,11 @@ use Rattle.chains.specs.Words.{Word, origin, path, marked, walk, word_of}
 use Rattle.parts.specs.Parts.{part_at}
 use Rattle.lent.specs.Lent.{zeros, filled}
 use Rattle.words.specs.Records.{record_parts}
-use Rattle.words.specs.Walks.{between, point, place, WayBack, Writable}
+use Rattle.words.specs.Walks.{between, place, WayBack, Writable}
 use Rattle.words.proofs.Back.{no_word, known, parted, letters, last, way}
-use Rattle.words.proofs.Between.{run, between_none, between_more, between_join, drop_between}
+use Rattle.words.proofs.Between.{run, filled_run, length_between, between_none, between_more, between_join, drop_between}
+use borrow.Rule.Slice.PartMut.{mid_of, put_mid}
+use Rattle.std.proofs.lemmas.List.{length-replicate}
 use Rattle.words.proofs.letters.write_letters.Goals as goal
 
 -- What stands behind the letters of a walk stays there.
@@ -58,54 +60,54 @@ module _ (t l : List ℕ) (n : ℕ) (able : Writable t l n) (some : length l ≡
       ∙ walk_append p (record_parts (drop 1 l)) (3 ∷ []) (zeros (64 - (place p + 1)) ++ drop 64 s)
       ∙ ap₂ (λ c k. word_of c ++ (zeros (64 - k) ++ drop 64 s)) (sym (parted t l n able some p e)) (sym (letters t l n able some p e))
 
-pub fill-requires : goal.fill-requires
-fill-requires c =
-    omega (arith, c.requires.room)
-
 pub returns-then-numbers-eq0 : goal.returns-then-numbers-eq0
 unfolding word_of
 returns-then-numbers-eq0 c =
     let l = c.if-numbers-eq0.true in
-    record { value = rw (no_word _ l); places_after = only_zeros _ l _ _ c.fill.ensures }
+    let zeroed = filled_run c.args.places.now 0 64 0 (omega arith) c.requires.room _ (c.fill.ensures.after (λ y e. e)) in
+    record { value = rw (no_word _ l); places_after = only_zeros _ l _ _ zeroed }
 
 pub part_of-largest-requires : goal.part_of-largest-requires
 part_of-largest-requires c =
-    (c.requires.is_codes, known _ _ _ c.requires c.if-numbers-eq0.false)
+    known _ _ _ c.requires c.if-numbers-eq0.false
+
+-- The places after the last letter, zeroed.
+zeroed : (s : List ℕ) (j : ℕ) → j < 64 → 64 ≤ length s → (ys : List ℕ) → ys ≡ replicate (length (mid_of (j + 1) (64 - (j + 1)) (set s j 3))) 0
+    → (put_mid (j + 1) (64 - (j + 1)) (set s j 3) ys ≡ run (j + 1) 64 0 (set s j 3))
+    × (length (put_mid (j + 1) (64 - (j + 1)) (set s j 3) ys) ≡ length s)
+zeroed s j h k ys e =
+    let room : 64 ≤ length (set s j 3) = simp length-set k in
+    let all = filled_run (set s j 3) (j + 1) 64 0 (omega arith) room ys e in
+    (all, ap length all ∙ length_between (set s j 3) (j + 1) 64 _ (omega arith) room (length-replicate (64 - (j + 1)) 0) ∙ simp length-set)
 
 pub overflow_add-last : goal.overflow_add-last
-overflow_add-last c =
-    omega (arith, (let placed : place (point c.part_of-largest.result) < 64 = last _ _ _ c.requires c.if-numbers-eq0.false _ c.part_of-largest.ensures in placed))
+overflow_add-last c = omega (arith, last _ _ _ c.requires c.if-numbers-eq0.false _ c.part_of-largest.ensures)
 
 pub bounds-places-last : goal.bounds-places-last
-bounds-places-last c =
-    omega (arith, (let placed : place (point c.part_of-largest.result) < 64 = last _ _ _ c.requires c.if-numbers-eq0.false _ c.part_of-largest.ensures in placed), c.requires.room)
+bounds-places-last c = omega (arith, last _ _ _ c.requires c.if-numbers-eq0.false _ c.part_of-largest.ensures, c.requires.room)
 
 pub overflow_add-last-2 : goal.overflow_add-last-2
-overflow_add-last-2 c =
-    omega (arith, (let placed : place (point c.part_of-largest.result) < 64 = last _ _ _ c.requires c.if-numbers-eq0.false _ c.part_of-largest.ensures in placed))
+overflow_add-last-2 c = omega (arith, last _ _ _ c.requires c.if-numbers-eq0.false _ c.part_of-largest.ensures)
 
-pub fill-requires-2 : goal.fill-requires-2
-fill-requires-2 c =
-    simp length-set
-    (omega (arith, (let placed : place (point c.part_of-largest.result) < 64 = last _ _ _ c.requires c.if-numbers-eq0.false _ c.part_of-largest.ensures in placed), c.requires.room))
+pub slice_bounds-fill-count-2 : goal.slice_bounds-fill-count-2
+slice_bounds-fill-count-2 c = omega (arith, last _ _ _ c.requires c.if-numbers-eq0.false _ c.part_of-largest.ensures)
+
+pub slice_bounds-fill-start-2 : goal.slice_bounds-fill-start-2
+slice_bounds-fill-start-2 c = omega (arith, last _ _ _ c.requires c.if-numbers-eq0.false _ c.part_of-largest.ensures)
 
 pub write_back-requires : goal.write_back-requires
 write_back-requires c =
-    way_in _ _ _ c.requires c.if-numbers-eq0.false _ c.part_of-largest.ensures _ (c.fill-2.auto.places ∙ simp length-set)
+    way_in _ _ _ c.requires c.if-numbers-eq0.false _ c.part_of-largest.ensures _
+    (zeroed _ _ (last _ _ _ c.requires c.if-numbers-eq0.false _ c.part_of-largest.ensures) c.requires.room _ (c.fill-2.ensures.after (λ y e. e))).1
 
 pub overflow_add-result : goal.overflow_add-result
-overflow_add-result c =
-    omega (arith, (let placed : place (point c.part_of-largest.result) < 64 = last _ _ _ c.requires c.if-numbers-eq0.false _ c.part_of-largest.ensures in placed))
-
-pub shape_of-places : goal.shape_of-places
-shape_of-places c =
-    c.write_back.auto.places
-    ∙ c.fill-2.auto.places ∙ simp length-set
+overflow_add-result c = omega (arith, last _ _ _ c.requires c.if-numbers-eq0.false _ c.part_of-largest.ensures)
 
 pub returns : goal.returns
 returns c =
+    let placed = last _ _ _ c.requires c.if-numbers-eq0.false _ c.part_of-largest.ensures in
+    let behind = zeroed _ _ placed c.requires.room _ (c.fill-2.ensures.after (λ y e. e)) in
     record {
       value = sym (letters _ _ _ c.requires c.if-numbers-eq0.false _ c.part_of-largest.ensures);
-      places_after = whole _ _ _ c.requires c.if-numbers-eq0.false _ c.part_of-largest.ensures _ _ refl
-          c.fill-2.ensures _ c.write_back.ensures;
+      places_after = whole _ _ _ c.requires c.if-numbers-eq0.false _ c.part_of-largest.ensures _ _ refl behind.0 _ c.write_back.ensures;
     }

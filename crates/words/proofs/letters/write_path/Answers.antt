@@ -1,13 +1,10 @@
 -- The two runs, of letter 2 where b rises and of letter 0 where a rises, stand one behind the other.
-use mathlib.Core.Path.{◌≡◌, ap, ap₂, ◌∙◌}
-use mathlib.Core.List.{List, ◌++◌}
-use Prim.Native.Nat.{ℕ, ◌+◌, ◌-◌}
-use native.Mathlib.Omega.{arith}
-use lib.ListN.{length, replicate, length-replicate}
+use Rattle.std.proofs.Common.{◌≡◌, ap, ap₂, ◌∙◌, List, ◌++◌, ℕ, ◌+◌, ◌-◌, length, replicate, arith}
+use Rattle.std.proofs.lemmas.List.{length-replicate}
 use Rattle.chains.specs.Chains.{Part}
 use Rattle.chains.specs.Words.{path}
-use Rattle.words.specs.Walks.{between, place, OnTheWay}
-use Rattle.words.proofs.Between.{run, between_join}
+use Rattle.words.specs.Walks.{between, place, point, OnTheWay}
+use Rattle.words.proofs.Between.{run, filled_run, length_between, between_join}
 use Rattle.words.proofs.letters.write_path.Goals as goal
 
 module _ (q p : Part) (l : List ℕ) (way : OnTheWay q p (length l)) where
@@ -27,5 +24,10 @@ module _ (q p : Part) (l : List ℕ) (way : OnTheWay q p (length l)) where
 
 pub returns : goal.returns
 returns c =
-    both_runs _ _ _ c.requires
-    _ _ c.fill.ensures c.fill-2.ensures
+    let way = c.requires in
+    let q = point c.args.q in
+    let p = point c.args.p in
+    let l = c.args.places.now in
+    let twos = filled_run l (place q) (q.a + p.b) 2 (omega arith) (omega arith) _ (c.fill.ensures.after (λ y e. e)) in
+    let room = ap length twos ∙ length_between l (place q) (q.a + p.b) _ (omega arith) (omega arith) (length-replicate (q.a + p.b - place q) 2) in
+    both_runs q p l way _ _ twos (filled_run _ (q.a + p.b) (place p) 0 (omega arith) (omega (arith, room)) _ (c.fill-2.ensures.after (λ y e. e)))

@@ -6,10 +6,8 @@ use native.Mathlib.Nat.{le_refl}
 use native.Mathlib.Omega.{arith}
 use lib.ListN.{length, drop, get_or, drop_of_length-le}
 use lib.Seq.{drop-cons}
-use borrow.Author.Rules.{rules}
 use Rattle.chains.specs.Words.{Word}
 use Rattle.words.specs.Packed.{bits, rise, mark, PackedAs, packed_word}
-use Rattle.words.specs.declared.Packed.TheVariants as packed
 use Rattle.words.proofs.packing.pack_all.Goals as goal
 
 bits_drop : (f : ℕ → ℕ) (i : ℕ) (w : Word) → bits f (drop i w) ≤ bits f w
@@ -40,88 +38,37 @@ next w i rises marks h g p =
     record { rising = rw p.rising (more rise w i h g); marking = rw p.marking (more mark w i h g) }
 
 whole : (w : Word) (i n rises marks : ℕ) → i ≤ 0 → PackedAs (drop i w) rises marks
-    → packed.Word n rises marks (length w) ≡ packed_word n w
+    → record { n = n; rises = rises; marks = marks; letters = length w } ≡ packed_word n w
 unfolding packed_word
 whole w i n rises marks h p =
     let z : i ≡ 0 = omega arith in
     let q : PackedAs w rises marks = rw z at p in
     rw (q.rising, q.marking)
 
+-- Both numbers fit with one letter more.
+known : (w : Word) (i rises marks : ℕ) → 0 < i → i ≤ length w → PackedAs (drop i w) rises marks
+    → (bits rise w < 2 ^ 64) × (bits mark w < 2 ^ 64)
+    → (2 * rises + rise (get_or w (i - 1) 0) < 2 ^ 64) × (2 * marks + mark (get_or w (i - 1) 0) < 2 ^ 64)
+known w i rises marks h g p low = (fit rise w i h g rises p.rising low.0, fit mark w i h g marks p.marking low.1)
+
 pub loop-i-init : goal.loop-i-init
-loop-i-init c =
-    (search rules, none c.args.letters.now _ refl)
+loop-i-init c = none c.args.letters.now _ refl
 
 pub overflow_mul-rises : goal.overflow_mul-rises
-overflow_mul-rises c =
-    omega (
-      arith,
-      (let known : let t = c.loop-i in let w = c.args.letters.now in
-          (2 * t.rises + rise (get_or w (t.i - 1) 0) < 2 ^ 64) × (2 * t.marks + mark (get_or w (t.i - 1) 0) < 2 ^ 64) = let v = c.loop-i.invariant in (
-            fit rise _ _ c.loop-i-test.true v.0 _ v.1.rising c.requires.0,
-            fit mark _ _ c.loop-i-test.true v.0 _ v.1.marking c.requires.1,
-          ) in known),
-    )
-
-pub overflow_cast-rises : goal.overflow_cast-rises
-overflow_cast-rises c =
-    omega (
-      arith,
-      (let known : let t = c.loop-i in let w = c.args.letters.now in
-          (2 * t.rises + rise (get_or w (t.i - 1) 0) < 2 ^ 64) × (2 * t.marks + mark (get_or w (t.i - 1) 0) < 2 ^ 64) = let v = c.loop-i.invariant in (
-            fit rise _ _ c.loop-i-test.true v.0 _ v.1.rising c.requires.0,
-            fit mark _ _ c.loop-i-test.true v.0 _ v.1.marking c.requires.1,
-          ) in known),
-    )
+overflow_mul-rises c = omega (arith, known c.args.letters.now _ _ _ c.loop-i-test.true c.loop-i.auto.i c.loop-i.invariant c.requires)
 
 pub overflow_add-rises : goal.overflow_add-rises
-overflow_add-rises c =
-    omega (
-      arith,
-      (let known : let t = c.loop-i in let w = c.args.letters.now in
-          (2 * t.rises + rise (get_or w (t.i - 1) 0) < 2 ^ 64) × (2 * t.marks + mark (get_or w (t.i - 1) 0) < 2 ^ 64) = let v = c.loop-i.invariant in (
-            fit rise _ _ c.loop-i-test.true v.0 _ v.1.rising c.requires.0,
-            fit mark _ _ c.loop-i-test.true v.0 _ v.1.marking c.requires.1,
-          ) in known),
-    )
+overflow_add-rises c = omega (arith, known c.args.letters.now _ _ _ c.loop-i-test.true c.loop-i.auto.i c.loop-i.invariant c.requires)
 
 pub overflow_mul-marks : goal.overflow_mul-marks
-overflow_mul-marks c =
-    omega (
-      arith,
-      (let known : let t = c.loop-i in let w = c.args.letters.now in
-          (2 * t.rises + rise (get_or w (t.i - 1) 0) < 2 ^ 64) × (2 * t.marks + mark (get_or w (t.i - 1) 0) < 2 ^ 64) = let v = c.loop-i.invariant in (
-            fit rise _ _ c.loop-i-test.true v.0 _ v.1.rising c.requires.0,
-            fit mark _ _ c.loop-i-test.true v.0 _ v.1.marking c.requires.1,
-          ) in known),
-    )
-
-pub overflow_cast-marks : goal.overflow_cast-marks
-overflow_cast-marks c =
-    omega (
-      arith,
-      (let known : let t = c.loop-i in let w = c.args.letters.now in
-          (2 * t.rises + rise (get_or w (t.i - 1) 0) < 2 ^ 64) × (2 * t.marks + mark (get_or w (t.i - 1) 0) < 2 ^ 64) = let v = c.loop-i.invariant in (
-            fit rise _ _ c.loop-i-test.true v.0 _ v.1.rising c.requires.0,
-            fit mark _ _ c.loop-i-test.true v.0 _ v.1.marking c.requires.1,
-          ) in known),
-    )
+overflow_mul-marks c = omega (arith, known c.args.letters.now _ _ _ c.loop-i-test.true c.loop-i.auto.i c.loop-i.invariant c.requires)
 
 pub overflow_add-marks : goal.overflow_add-marks
-overflow_add-marks c =
-    omega (
-      arith,
-      (let known : let t = c.loop-i in let w = c.args.letters.now in
-          (2 * t.rises + rise (get_or w (t.i - 1) 0) < 2 ^ 64) × (2 * t.marks + mark (get_or w (t.i - 1) 0) < 2 ^ 64) = let v = c.loop-i.invariant in (
-            fit rise _ _ c.loop-i-test.true v.0 _ v.1.rising c.requires.0,
-            fit mark _ _ c.loop-i-test.true v.0 _ v.1.marking c.requires.1,
-          ) in known),
-    )
+overflow_add-marks c = omega (arith, known c.args.letters.now _ _ _ c.loop-i-test.true c.loop-i.auto.i c.loop-i.invariant c.requires)
 
 pub loop-i-preserved : goal.loop-i-preserved
 loop-i-preserved c =
-    let v = c.loop-i.invariant in
-    (search rules, next _ _ _ _ c.loop-i-test.true v.0 v.1)
+    rw (c.from.ensures, c.from-in-loop-i.ensures) (next _ _ _ _ c.loop-i-test.true c.loop-i.auto.i c.loop-i.invariant)
 
 pub returns : goal.returns
-returns c =
-    whole _ _ _ _ _ c.loop-i-test.false c.loop-i.invariant.1
+returns c = whole _ _ _ _ _ c.loop-i-test.false c.loop-i.invariant

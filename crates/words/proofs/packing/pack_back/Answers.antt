@@ -1,6 +1,7 @@
 -- The two numbers hold the letters from the part p on, and the parts below p give the rest of the word; the numbers passed are in the
 -- table, their parts are a chain if those that are left are one below p, and the sum so far and that of the parts that are left make
 -- the whole: this is the invariant. One turn follows the definition's own line.
+use Rattle.std.proofs.Common.{Ok}
 use mathlib.Core.Path.{◌≡◌, refl, sym, ap, subst, ◌∙◌}
 use mathlib.Core.Logic.Iff
 use mathlib.Core.Logic.{◌↔◌}
@@ -27,7 +28,6 @@ use Rattle.words.specs.RecordLaws.{in_table, number_known, judged_sum}
 use Rattle.words.specs.Walks.{place, NoSum, Begun, steps, rises_from, marks_from, Joins}
 use Rattle.words.specs.Packed.{bits, packed_word, packed_by, packed_of}
 use Rattle.words.specs.PackedLaws.{length_path, before_path, before_marked, length_marked, joined_below}
-use Rattle.words.specs.declared.Packed.TheVariants as packed
 use Rattle.words.proofs.Judging.{refused}
 use Rattle.words.proofs.packing.pack_back.Invariants.{Packing}
 use Rattle.words.proofs.packing.pack_back.Goals as goal
@@ -138,8 +138,8 @@ module _ (l : List ℕ) (p₀ : Part) (i last : ℕ) (p : Part) (n rises marks :
     unfolding total
     added = omega (arith, so.sum, ap total below)
 
-    too_large : 2 ^ 64 - 1 - n < v → NoSum l
-    too_large k m j = let b = (judged_sum l m).0 j in omega (arith, added, so.low, b.chain.sums, b.fits)
+    too_large : (n + v < 2 ^ 64 → ⊥) → NoSum l
+    too_large k m j = let b = (judged_sum l m).0 j in omega (arith, k, added, b.chain.sums, b.fits)
 
     module _ (within : (q.a ≤ p.a) × (q.b ≤ p.b)) (less : get_or l i 0 < last) where
       above : Above p q
@@ -172,10 +172,10 @@ module _ (l : List ℕ) (p₀ : Part) (i last : ℕ) (p : Part) (n rises marks :
         λ c. subst (λ k. Chained (p ∷ k)) (sym below) ((multiple_above p q).1 above, c),
       )
 
-      more : v ≤ 2 ^ 64 - 1 - n → (r m : ℕ) → r ≡ rises_from q p rises → m ≡ marks_from q p 1 marks
-          → Packing l p₀ (i + 1) (get_or l i 0) q (n + v) r m
+      more : n + v < 2 ^ 64 → (s r m : ℕ) → s ≡ n + v → r ≡ rises_from q p rises → m ≡ marks_from q p 1 marks
+          → Packing l p₀ (i + 1) (get_or l i 0) q s r m
       unfolding walk
-      more fits r m er em =
+      more fits s r m es er em =
           let j = length so.w in
           let held = before_marked q p so.w apart in
           let long = length_marked q p so.w apart in
@@ -198,8 +198,8 @@ module _ (l : List ℕ) (p₀ : Part) (i last : ℕ) (p : Part) (n rises marks :
             part = e;
             known = so.known ∙ passed l i h (omega (arith, so.inside));
             chained = Iff.trans so.chained linked;
-            low = omega (arith, so.low);
-            sum = added;
+            low = omega (arith, es, fits);
+            sum = rw es added;
           }
 
 -- No part is left: from the last one to (0, 0).
@@ -226,7 +226,7 @@ module _ (l : List ℕ) (p₀ : Part) (i last : ℕ) (p : Part) (n rises marks :
           fits = so.low;
         }
 
-    packs : packed_of l ≡ packed_word n (word_of (record_parts l))
+    packs : packed_of l ≡ Ok (packed_word n (word_of (record_parts l)))
     unfolding packed_of packed_by
     packs = rw ((judged_sum l n).1 burned)
 
@@ -237,7 +237,7 @@ module _ (l : List ℕ) (p₀ : Part) (i last : ℕ) (p : Part) (n rises marks :
     letters : place p₀ + 1 ≡ length (path origin p ++ so.w)
     letters = sym (length-append (path origin p) so.w ∙ omega (arith, length_path origin p, so.long))
 
-    whole : (r m : ℕ) → r ≡ rises_from origin p rises → m ≡ marks_from origin p 0 marks → packed.Word n r m (place p₀ + 1) ≡ packed_of l
+    whole : (r m : ℕ) → r ≡ rises_from origin p rises → m ≡ marks_from origin p 0 marks → Ok (record { n = n; rises = r; marks = m; letters = place p₀ + 1 }) ≡ packed_of l
     unfolding packed_word
     whole r m er em =
         let held = before_path origin p so.w in
@@ -247,7 +247,7 @@ module _ (l : List ℕ) (p₀ : Part) (i last : ℕ) (p : Part) (n rises marks :
 
 pub value_at-n-requires : goal.value_at-n-requires
 value_at-n-requires c =
-    (c.requires.is_powers, known_low _ _ c.requires.known c.requires.largest)
+    known_low _ _ c.requires.known c.requires.largest
 
 pub bounds-numbers-0 : goal.bounds-numbers-0
 bounds-numbers-0 c =
@@ -259,7 +259,7 @@ loop-i-init c =
 
 pub refusal-requires : goal.refusal-requires
 refusal-requires c =
-    (c.requires.is_codes, unordered _ _ _ _ _ _ _ _ c.loop-i.invariant c.loop-i-test.true _ refl c.if-last-number.true)
+    unordered _ _ _ _ _ _ _ _ c.loop-i.invariant c.loop-i-test.true _ refl c.if-last-number.true
 
 pub returns-then-last-number : goal.returns-then-last-number
 returns-then-last-number c =
@@ -267,43 +267,37 @@ returns-then-last-number c =
 
 pub part_of-q-requires : goal.part_of-q-requires
 part_of-q-requires c =
-    (c.requires.is_codes, omega (arith, c.loop-i.invariant.inside, c.if-last-number.false))
+    omega (arith, c.loop-i.invariant.inside, c.if-last-number.false)
 
 pub refusal-requires-then-not-is_within : goal.refusal-requires-then-not-is_within
-refusal-requires-then-not-is_within c = (
-  c.requires.is_codes,
-  unchained _ _ _ _ _ _ _ _ c.loop-i.invariant c.loop-i-test.true _ c.part_of-q.ensures _ c.is_within.ensures
-      c.if-not-is_within.true,
-)
+refusal-requires-then-not-is_within c =
+    unchained _ _ _ _ _ _ _ _ c.loop-i.invariant c.loop-i-test.true _ c.part_of-q.ensures _ c.is_within.ensures c.if-not-is_within.true
 
 pub returns-then-not-is_within : goal.returns-then-not-is_within
 returns-then-not-is_within c =
     refused _ _ c.refusal-then-not-is_within.ensures
 
-pub value_at-v-requires : goal.value_at-v-requires
-value_at-v-requires c =
-    (c.requires.is_powers, known_low _ _ (omega (arith, c.loop-i.invariant.inside, c.if-last-number.false)) c.part_of-q.ensures)
+pub value_at-requires : goal.value_at-requires
+value_at-requires c =
+    known_low _ _ (omega (arith, c.loop-i.invariant.inside, c.if-last-number.false)) c.part_of-q.ensures
 
-pub refusal-requires-then-n-v : goal.refusal-requires-then-n-v
-refusal-requires-then-n-v c = (
-  c.requires.is_codes,
-  too_large _ _ _ _ _ _ _ _ c.loop-i.invariant c.loop-i-test.true _ c.part_of-q.ensures _ c.value_at-v.ensures
-      c.if-n-v.true,
-)
+pub refusal-requires-in_default : goal.refusal-requires-in_default
+refusal-requires-in_default c =
+    too_large _ _ _ _ _ _ _ _ c.loop-i.invariant c.loop-i-test.true _ c.part_of-q.ensures _ c.value_at.ensures c.in_default.ensures
 
-pub returns-then-n-v : goal.returns-then-n-v
-returns-then-n-v c =
-    refused _ _ c.refusal-then-n-v.ensures
+pub returns-in_default : goal.returns-in_default
+returns-in_default c =
+    refused _ _ c.refusal-in_default.ensures
 
 pub with_path-found-requires : goal.with_path-found-requires
 with_path-found-requires c =
-    able _ _ _ _ _ _ _ _ c.loop-i.invariant c.loop-i-test.true _ c.part_of-q.ensures _ c.value_at-v.ensures
+    able _ _ _ _ _ _ _ _ c.loop-i.invariant c.loop-i-test.true _ c.part_of-q.ensures _ c.value_at.ensures
     (c.is_within.ensures.0 c.if-not-is_within.false) c.if-last-number.false
 
 pub loop-i-preserved : goal.loop-i-preserved
 loop-i-preserved c =
-    more _ _ _ _ _ _ _ _ c.loop-i.invariant c.loop-i-test.true _ c.part_of-q.ensures _ c.value_at-v.ensures
-    (c.is_within.ensures.0 c.if-not-is_within.false) c.if-last-number.false c.if-n-v.false _ _ c.with_path-found.ensures.0
+    more _ _ _ _ _ _ _ _ c.loop-i.invariant c.loop-i-test.true _ c.part_of-q.ensures _ c.value_at.ensures
+    (c.is_within.ensures.0 c.if-not-is_within.false) c.if-last-number.false c.in-Some.ensures.0 _ _ _ c.in-Some.ensures.1 c.with_path-found.ensures.0
     c.with_path-found.ensures.1
 
 pub with_path-whole-requires : goal.with_path-whole-requires

@@ -4,7 +4,7 @@
 use mathlib.Core.Path.{◌≡◌}
 use mathlib.Core.Logic.{◌↔◌}
 use mathlib.Core.List.{List, ◌∷◌}
-use Prim.Native.Nat.{ℕ, ◌+◌, ◌-◌, ◌^◌, ◌≤◌, ◌<◌}
+use Prim.Native.Nat.{ℕ, ◌+◌, ◌^◌, ◌≤◌, ◌<◌}
 use lib.ListN.{length, drop}
 use Rattle.chains.specs.Chains.{Part, Chained, total}
 use Rattle.chains.specs.Words.{Word, walk, word_of}
@@ -34,6 +34,3 @@ pub record Packing (l : List ℕ) (p₀ : Part) (i last : ℕ) (p : Part) (n ris
 
 abbrev pub invariant-loop-i : goal.invariant-loop-i
 invariant-loop-i l = Packing l.numbers (point l.largest) l.i l.last (point l.p) l.n l.found.rises l.found.marks
-
-abbrev pub decreases-loop-i : goal.decreases-loop-i
-decreases-loop-i l = length l.numbers - l.i

@@ -10,7 +10,6 @@ use native.Mathlib.Omega.{arith}
 use lib.Dec.{T, ltb, eqb}
 use lib.ListN.{length, drop, get_or, length-drop}
 use lib.Seq.{drop-cons}
-use borrow.Author.Rules.{rules}
 use Rattle.chains.specs.Chains.{Part, value}
 use Rattle.chains.specs.Divides.{Above}
 use Rattle.chains.proofs.Divides.{value_pos, multiple_above}
@@ -62,28 +61,26 @@ all_passed (x ∷ y ∷ w) h = absurd (omega arith)
 
 pub loop-i-init : goal.loop-i-init
 loop-i-init c =
-    (search rules, refl)
+    refl
 
 pub part_of-p-requires : goal.part_of-p-requires
 part_of-p-requires c =
-    (c.requires.0, number_known _ _ c.requires.1 (omega (arith, c.loop-i-test.true)))
+    number_known _ _ c.requires (omega (arith, c.loop-i-test.true, c.loop-i.auto.i))
 
 pub part_of-q-requires : goal.part_of-q-requires
 part_of-q-requires c =
-    (c.requires.0, number_known _ _ c.requires.1 c.loop-i-test.true)
+    number_known _ _ c.requires c.loop-i-test.true
 
 pub returns-then-not-is_above : goal.returns-then-not-is_above
 returns-then-not-is_above c =
-    failed _ _ c.loop-i.invariant.0 c.loop-i-test.true c.loop-i.invariant.1 _ _ c.part_of-p.ensures
+    failed _ _ c.loop-i.auto.i c.loop-i-test.true c.loop-i.invariant _ _ c.part_of-p.ensures
     c.part_of-q.ensures _ c.is_above.ensures c.if-not-is_above.true
 
 pub loop-i-preserved : goal.loop-i-preserved
 loop-i-preserved c =
-    let more =
-    passed _ _ c.loop-i.invariant.0 c.loop-i-test.true c.loop-i.invariant.1 _ _ c.part_of-p.ensures
-    c.part_of-q.ensures _ c.is_above.ensures c.if-not-is_above.false in
-    (search rules, more)
+    passed _ _ c.loop-i.auto.i c.loop-i-test.true c.loop-i.invariant _ _ c.part_of-p.ensures
+    c.part_of-q.ensures _ c.is_above.ensures c.if-not-is_above.false
 
 pub returns : goal.returns
 returns c =
-    sym (c.loop-i.invariant.1 ∙ all_passed _ (simp length-drop (omega arith)))
+    sym (c.loop-i.invariant ∙ all_passed _ (simp length-drop (omega arith)))

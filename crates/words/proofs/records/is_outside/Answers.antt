@@ -7,7 +7,6 @@ use native.Mathlib.Numerals.{add-one}
 use lib.Dec.{ltb}
 use lib.ListN.{length, drop, get_or, drop_of_length-le}
 use lib.Seq.{drop-cons}
-use borrow.Author.Rules.{rules}
 use borrow.Author.Tests.{lt-ltb, le-ltb, le-leb, lt-leb}
 use Rattle.words.specs.Records.{beyond}
 use native.Mathlib.Omega.{arith}
@@ -33,18 +32,14 @@ pub returns-then-numbers-gt64 : goal.returns-then-numbers-gt64
 returns-then-numbers-gt64 c =
     too_many c.args.numbers.now (omega arith)
 
-pub loop-i-init : goal.loop-i-init
-loop-i-init c =
-    (search rules, refl)
+pub loop-number-init : goal.loop-number-init
+loop-number-init c = refl
 
-pub returns-then-numbers-i-ge1344 : goal.returns-then-numbers-i-ge1344
-returns-then-numbers-i-ge1344 c =
-    found _ _ c.loop-i.invariant.1 c.loop-i-test.true c.if-numbers-i-ge1344.true
+pub returns-then-number-ge1344 : goal.returns-then-number-ge1344
+returns-then-number-ge1344 c = found _ _ c.loop-number.invariant c.loop-number-test.true (omega arith)
 
-pub loop-i-preserved : goal.loop-i-preserved
-loop-i-preserved c =
-    (search rules, passed _ _ c.loop-i.invariant.1 c.loop-i-test.true c.if-numbers-i-ge1344.false)
+pub loop-number-preserved : goal.loop-number-preserved
+loop-number-preserved c = passed _ _ c.loop-number.invariant c.loop-number-test.true (omega arith)
 
 pub returns : goal.returns
-returns c =
-    none_found _ _ c.loop-i.invariant.1 (omega arith) c.loop-i-test.false
+returns c = none_found _ _ c.loop-number.invariant (omega arith) c.loop-number-test.false

@@ -1,8 +1,9 @@
 -- The sum so far and that of the parts that are left make the whole: this is the invariant. Where one more part would pass the
 -- largest 64-bit number, the whole does too.
+use Rattle.std.proofs.Common.{None}
 use mathlib.Core.Path.{◌≡◌}
 use mathlib.Core.List.{List}
-use Prim.Native.Nat.{ℕ, suc, ◌+◌, ◌-◌, ◌^◌, ◌≤◌, ◌<◌}
+use Prim.Native.Nat.{ℕ, suc, ◌+◌, ◌^◌, ◌<◌}
 use native.Mathlib.Numerals.{add-one}
 use native.Mathlib.Omega.{arith}
 use lib.ListN.{length, get_or, drop_of_length-le}
@@ -10,7 +11,6 @@ use lib.Seq.{drop-cons}
 use borrow.Author.Tests.{lt-ltb, le-ltb}
 use Rattle.chains.specs.Chains.{value, total}
 use Rattle.parts.specs.Parts.{limit, part_at, sum_of}
-use Rattle.parts.specs.declared.Sum.TheVariants.{Fits, Over}
 use Rattle.words.specs.Records.{record_parts}
 use Rattle.words.specs.RecordLaws.{number_known}
 use Rattle.words.proofs.records.sum_of.Invariants.{sum_from, Summed}
@@ -24,36 +24,27 @@ module _ (l : List ℕ) (s i v : ℕ) (inv : Summed l s i) (h : i < length l) (e
       let w : s + (value (part_at (get_or l i 0)) + sum_from (suc i) l) ≡ total (record_parts l) = rw (drop-cons l i 0) at inv.whole in
       rw add-one (omega arith)
 
-  over : 2 ^ 64 - 1 - s < v → Over ≡ sum_of (total (record_parts l))
+  over : (s + v < 2 ^ 64 → ⊥) → None ≡ sum_of (total (record_parts l))
   unfolding sum_of
-  over k = rw (le-ltb (total (record_parts l)) limit (omega (arith, step)))
+  over k = rw (le-ltb (total (record_parts l)) limit (omega (arith, step, k)))
 
-  more : v ≤ 2 ^ 64 - 1 - s → Summed l (s + v) (i + 1)
-  more k = record { passed = omega arith; low = omega (arith, inv.low); whole = step }
+pub value_of-requires : goal.value_of-requires
+value_of-requires c = number_known _ _ c.requires c.loop-number-test.true
 
--- No number is left.
-fits : (l : List ℕ) (s i : ℕ) → Summed l s i → length l ≤ i → Fits s ≡ sum_of (total (record_parts l))
-unfolding sum_of total record_parts
-fits l s i inv h =
-    let all : total (record_parts l) ≡ s = omega (arith, rw (drop_of_length-le l h) at inv.whole) in
-    rw (all, lt-ltb s limit inv.low)
+pub returns-in_err-sum : goal.returns-in_err-sum
+returns-in_err-sum c =
+    cc (c.from_residual.ensures, over _ _ _ _ c.loop-number.invariant c.loop-number-test.true c.value_of.ensures c.in_err-sum.ensures)
 
-pub loop-i-init : goal.loop-i-init
-loop-i-init c =
-    record { passed = omega arith; low = omega arith; whole = omega arith }
-
-pub value_of-v-requires : goal.value_of-v-requires
-value_of-v-requires c =
-    (c.requires.0, c.requires.1, number_known _ _ c.requires.2 c.loop-i-test.true)
-
-pub returns-then-sum-v : goal.returns-then-sum-v
-returns-then-sum-v c =
-    over _ _ _ _ c.loop-i.invariant c.loop-i-test.true c.value_of-v.ensures c.if-sum-v.true
-
-pub loop-i-preserved : goal.loop-i-preserved
-loop-i-preserved c =
-    more _ _ _ _ c.loop-i.invariant c.loop-i-test.true c.value_of-v.ensures c.if-sum-v.false
+pub loop-number-preserved : goal.loop-number-preserved
+loop-number-preserved c =
+    record {
+      low = omega (arith, c.in_ok-sum.ensures);
+      whole = rw (c.in_ok-sum.ensures.1) (step _ _ _ _ c.loop-number.invariant c.loop-number-test.true c.value_of.ensures);
+    }
 
 pub returns : goal.returns
+unfolding sum_of total record_parts
 returns c =
-    fits _ _ _ c.loop-i.invariant c.loop-i-test.false
+    let all : total (record_parts c.args.numbers.now) ≡ c.loop-number.sum =
+    omega (arith, rw (drop_of_length-le c.args.numbers.now c.loop-number-test.false) at c.loop-number.invariant.whole) in
+    rw (all, lt-ltb c.loop-number.sum limit c.loop-number.invariant.low)

@@ -2,8 +2,8 @@
 -- largest 64-bit number, the whole does too.
 use mathlib.Core.Path.{◌≡◌}
 use mathlib.Core.List.{List}
-use Prim.Native.Nat.{ℕ, ◌+◌, ◌-◌, ◌≤◌, ◌<◌}
-use lib.ListN.{length, drop}
+use Prim.Native.Nat.{ℕ, ◌+◌, ◌<◌}
+use lib.ListN.{drop}
 use Rattle.chains.specs.Chains.{total}
 use Rattle.parts.specs.Parts.{limit}
 use Rattle.words.specs.Records.{record_parts}
@@ -14,12 +14,8 @@ sum_from i l = total (record_parts (drop i l))
 
 -- After i numbers the sum is s.
 pub record Summed (l : List ℕ) (s i : ℕ) : Type 0 where
-  pub passed : i ≤ length l
   pub low : s < limit
   pub whole : s + sum_from i l ≡ total (record_parts l)
 
-abbrev pub invariant-loop-i : goal.invariant-loop-i
-invariant-loop-i l = Summed l.numbers l.sum l.i
-
-abbrev pub decreases-loop-i : goal.decreases-loop-i
-decreases-loop-i l = length l.numbers - l.i
+abbrev pub invariant-loop-number : goal.invariant-loop-number
+invariant-loop-number l = Summed l.numbers l.sum l.number-index

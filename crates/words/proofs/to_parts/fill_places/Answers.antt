@@ -8,7 +8,7 @@ use lib.ListN.{length, drop, length-map}
 use borrow.Author.Rules.{rules}
 use borrow.Rule.Slice.PartMut.{mid_of, put_mid}
 use Rattle.lent.specs.Lent.{zeros, filled}
-use Rattle.lent.specs.LentLaws.{length_filled, cleared, over_zeros}
+use Rattle.lent.specs.LentLaws.{zeros_by_fill, length_filled, cleared, over_zeros}
 use Rattle.parts.specs.Parts.{part_number}
 use Rattle.words.specs.Packed.{packed_chain}
 use Rattle.words.specs.UnpackedLaws.{packed_count}
@@ -32,8 +32,8 @@ module _ (entry ys : List ℕ) (room : 64 ≤ length entry) (zeroed : ys ≡ zer
 
 pub store_numbers-requires : goal.store_numbers-requires
 store_numbers-requires c =
-    inside c.args.places.now _ c.requires c.clear_u16.ensures
+    inside c.args.places.now _ c.requires (zeros_by_fill _ c.fill.ensures.after)
 
 pub returns : goal.returns
 returns c =
-    all c.args.places.now _ c.requires c.clear_u16.ensures _ _ (search rules) _ c.store_numbers.ensures
+    all c.args.places.now _ c.requires (zeros_by_fill _ c.fill.ensures.after) _ _ (search rules) _ c.store_numbers.ensures

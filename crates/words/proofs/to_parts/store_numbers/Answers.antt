@@ -3,10 +3,10 @@
 use mathlib.Core.Path.{◌≡◌, refl, sym, ap, ◌∙◌}
 use mathlib.Core.List.{List, [], ◌∷◌, ◌++◌, map, append-nil}
 use Prim.Native.Nat.{ℕ, suc, ◌+◌, ◌-◌, ◌*◌, ◌%◌, ◌^◌, ◌≤◌, ◌<◌}
+use native.Mathlib.Nat.{lt_of_not-le}
 use native.Mathlib.Numerals.{add-one}
 use native.Mathlib.Omega.{arith}
-use lib.Count.{count_leading_zeros, leading_top, ones-le}
-use lib.Pow.{pow_pos}
+use lib.Count.{ones, count_leading_zeros, leading_top, ones-le}
 use lib.ListN.{length, drop, get_or, set, length-append, length-map, length-set}
 use lib.Seq.{append_snoc, drop-cons, set_at}
 use borrow.Author.Rules.{rules}
@@ -78,90 +78,74 @@ first : (rises m : ℕ) → Highest m
 first rises m h =
     rw h.bit (ap (map part_number) (packed_largest rises m (place m) (omega arith) h.least h.most))
 
--- A turn, while a mark is left.
-module _
-    (rises marks left k : ℕ) (entry l : List ℕ) (fits : marks < 2 ^ 64) (room : 64 ≤ length entry) (low : left ≤ marks)
-    (s : Stored (numbers rises marks) (numbers rises left) entry l k) (some : 0 < left)
-  where
-    top : Highest left
-    top = highest left some (omega arith)
+-- As many numbers as marks.
+marks_counted : (rises m : ℕ) → m < 2 ^ 64 → length (numbers rises m) ≡ ones m
+marks_counted rises m fits = length-map (packed_chain rises m) part_number ∙ packed_count rises m fits
 
-    more : k < 64
-    more = omega (arith, all_placed s, at_most_64 rises marks fits, ap length (first rises left top))
+-- A turn, while fewer numbers are stored than there are marks.
+module _
+    (rises marks left k : ℕ) (entry l : List ℕ) (fits : marks < 2 ^ 64) (room : 64 ≤ length entry) (turn : k < ones marks)
+    (now : (left ≤ marks) × Stored (numbers rises marks) (numbers rises left) entry l k)
+  where
+    some : 0 < left
+    some =
+        lt_of_not-le (λ (h : left ≤ 0).
+        omega (arith, all_placed now.1, marks_counted rises marks fits, ap length (none rises left h)))
+
+    top : Highest left
+    top = highest left some (omega (arith, now.0))
+
+    inside : (k < 64) × (64 ≤ length l)
+    inside = (
+      omega (arith, all_placed now.1, at_most_64 rises marks fits, ap length (first rises left top)),
+      omega (arith, now.1.same),
+    )
 
     again : (v : ℕ) → v ≡ part_number (point_at rises (place left))
         → Stored (numbers rises marks) (numbers rises (left - 1 * 2 ^ place left % 2 ^ 64)) entry (set l k v) (k + 1)
-    again v e = rw e (next s (part_number (point_at rises (place left))) _ (first rises left top) (omega (arith, more)))
+    again v e = rw e (next now.1 (part_number (point_at rises (place left))) _ (first rises left top) (omega (arith, inside.0)))
 
--- No mark is left.
-done : (rises marks left k : ℕ) (entry l : List ℕ) → Stored (numbers rises marks) (numbers rises left) entry l k → left ≤ 0
-    → l ≡ numbers rises marks ++ drop (length (packed_chain rises marks)) entry
-done rises marks left k entry l s h = rw (← length-map (packed_chain rises marks) part_number) (none_left s (none rises left h))
+-- All numbers are stored.
+done : (rises marks left k : ℕ) (entry l : List ℕ) → marks < 2 ^ 64 → Stored (numbers rises marks) (numbers rises left) entry l k
+    → ones marks ≤ k → l ≡ numbers rises marks ++ drop (length (packed_chain rises marks)) entry
+done rises marks left k entry l fits s h =
+    rw (← length-map (packed_chain rises marks) part_number)
+    (none_left s (empty (numbers rises left) (omega (arith, all_placed s, marks_counted rises marks fits))))
+  where
+    empty : (xs : List ℕ) → length xs ≤ 0 → xs ≡ []
+    empty [] g = refl
+    empty (x ∷ xs) g = absurd (omega arith)
 
-pub loop-left-init : goal.loop-left-init
-loop-left-init c =
-    (search rules, start _ _)
+pub loop-k-init : goal.loop-k-init
+loop-k-init c = (omega arith, start _ _)
 
 pub overflow_sub-i : goal.overflow_sub-i
-overflow_sub-i c =
-    (let known : Highest c.loop-left.left = highest _ c.loop-left-test.true (omega (arith, c.loop-left.invariant.0, c.ranges)) in known).few
+overflow_sub-i c = (top c.args.rises c.args.marks _ _ _ c.loop-k.places (search rules) c.requires (omega arith) c.loop-k.invariant).few
 
 pub number_at-requires : goal.number_at-requires
-number_at-requires c =
-    omega arith
+number_at-requires c = omega arith
 
 pub offset_bounds-places-k : goal.offset_bounds-places-k
 offset_bounds-places-k c =
-    omega (
-      arith,
-      (let inside : (c.loop-left.k < 64) × (64 ≤ length c.loop-left.places) = let t = c.loop-left in (
-        more c.args.rises c.args.marks t.left t.k _ t.places (search rules) c.requires t.invariant.0 t.invariant.1
-            c.loop-left-test.true,
-        omega (arith, c.requires, t.invariant.1.same),
-      ) in inside),
-    )
+    omega (arith, inside c.args.rises c.args.marks _ _ _ c.loop-k.places (search rules) c.requires (omega arith) c.loop-k.invariant)
 
 pub bounds-places-k : goal.bounds-places-k
 bounds-places-k c =
-    omega (
-      arith,
-      (let inside : (c.loop-left.k < 64) × (64 ≤ length c.loop-left.places) = let t = c.loop-left in (
-        more c.args.rises c.args.marks t.left t.k _ t.places (search rules) c.requires t.invariant.0 t.invariant.1
-            c.loop-left-test.true,
-        omega (arith, c.requires, t.invariant.1.same),
-      ) in inside),
-    )
+    omega (arith, inside c.args.rises c.args.marks _ _ _ c.loop-k.places (search rules) c.requires (omega arith) c.loop-k.invariant)
 
 pub overflow_sub-left : goal.overflow_sub-left
 overflow_sub-left c =
-    omega (arith, (let known : Highest c.loop-left.left = highest _ c.loop-left-test.true (omega (arith, c.loop-left.invariant.0, c.ranges)) in known).bit, (let known : Highest c.loop-left.left = highest _ c.loop-left-test.true (omega (arith, c.loop-left.invariant.0, c.ranges)) in known).least)
+    let h = top c.args.rises c.args.marks _ _ _ c.loop-k.places (search rules) c.requires (omega arith) c.loop-k.invariant in
+    omega (arith, h.bit, h.least)
 
-pub overflow_add-k : goal.overflow_add-k
-overflow_add-k c =
-    omega (
-      arith,
-      (let inside : (c.loop-left.k < 64) × (64 ≤ length c.loop-left.places) = let t = c.loop-left in (
-        more c.args.rises c.args.marks t.left t.k _ t.places (search rules) c.requires t.invariant.0 t.invariant.1
-            c.loop-left-test.true,
-        omega (arith, c.requires, t.invariant.1.same),
-      ) in inside),
-    )
-
-pub loop-left-smaller : goal.loop-left-smaller
-loop-left-smaller c =
-    let h = (let known : Highest c.loop-left.left = highest _ c.loop-left-test.true (omega (arith, c.loop-left.invariant.0, c.ranges)) in known) in omega (arith, h.bit, h.least, pow_pos (place c.loop-left.left))
-
-pub loop-left-preserved : goal.loop-left-preserved
-loop-left-preserved c =
-    let v = c.loop-left.invariant in (
-      omega (arith, v.0),
-      again _ _ _ _ _ _ (search rules) c.requires v.0 v.1 c.loop-left-test.true _ c.number_at.ensures,
-    )
+pub loop-k-preserved : goal.loop-k-preserved
+loop-k-preserved c = (
+  omega (arith, c.loop-k.invariant.0),
+  again _ _ _ _ _ _ (search rules) c.requires (omega arith) c.loop-k.invariant _ c.number_at.ensures,
+)
 
 pub shape_of-places : goal.shape_of-places
-shape_of-places c =
-    c.loop-left.invariant.1.same
+shape_of-places c = c.loop-k.invariant.1.same
 
 pub returns : goal.returns
-returns c =
-    done _ _ _ _ _ _ c.loop-left.invariant.1 c.loop-left-test.false
+returns c = done _ _ _ _ _ _ (search rules) c.loop-k.invariant.1 (omega arith)

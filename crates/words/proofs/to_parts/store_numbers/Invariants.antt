@@ -23,8 +23,5 @@ pub record Stored (all left entry l : List ℕ) (k : ℕ) : Type 0 where
 abbrev pub numbers : ℕ → ℕ → List ℕ
 numbers rises m = map part_number (packed_chain rises m)
 
-abbrev pub invariant-loop-left : goal.invariant-loop-left
-invariant-loop-left l = (l.left ≤ l.marks) × Stored (numbers l.rises l.marks) (numbers l.rises l.left) l.initial.places l.places l.k
-
-abbrev pub decreases-loop-left : goal.decreases-loop-left
-decreases-loop-left l = l.left
+abbrev pub invariant-loop-k : goal.invariant-loop-k
+invariant-loop-k l = (l.left ≤ l.marks) × Stored (numbers l.rises l.marks) (numbers l.rises l.left) l.initial.places l.places l.k

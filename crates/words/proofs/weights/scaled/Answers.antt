@@ -1,8 +1,8 @@
 -- The test before the product says whether the sum is below 2^64.
+use Rattle.std.proofs.Common.{Some}
 use mathlib.Core.Path.{◌≡◌, sym, ap, ◌∙◌}
 use Prim.Native.Nat.{ℕ, zero, suc, ◌+◌, ◌-◌, ◌*◌, ◌/◌, ◌^◌, ◌≤◌, ◌<◌}
 use native.Mathlib.Omega.{arith}
-use Rattle.words.specs.declared.Weighed.TheVariants.{Number}
 use Rattle.words.proofs.Sized.{sized_number, sized_over}
 use Rattle.words.proofs.weights.scaled.Goals as goal
 
@@ -59,7 +59,7 @@ overflow_add-result-2 c =
 
 pub returns : goal.returns
 returns c =
-    ap Number (let fits : (2 * c.args.n + c.args.up * c.args.n + c.args.r
+    ap Some (let fits : (2 * c.args.n + c.args.up * c.args.n + c.args.r
     ≡ c.args.r + (2 + c.args.up) * c.args.n)
     × (c.args.r + (2 + c.args.up) * c.args.n < 2 ^ 64) = below _ _ _ _ c.requires.0 c.requires.1 c.largest.ensures c.if-largest-n.false in fits).0 ∙ sym (sized_number _ (let fits : (2 * c.args.n + c.args.up * c.args.n + c.args.r
     ≡ c.args.r + (2 + c.args.up) * c.args.n)

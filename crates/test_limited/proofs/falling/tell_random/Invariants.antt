@@ -1,9 +1,0 @@
--- `tell_random` is safe and ends: what is left of the turns falls.
-use Rattle.std.proofs.Common.{◌≡◌, ◌-◌, ◌≤◌, length}
-use Rattle.test_limited.proofs.falling.tell_random.Given as goal
-
-abbrev pub invariant-loop-i : goal.invariant-loop-i
-invariant-loop-i l = (l.i ≤ 300) × (length l.scratch ≡ length l.initial.scratch) × (length l.places ≡ length l.initial.places)
-
-abbrev pub decreases-loop-i : goal.decreases-loop-i
-decreases-loop-i l = 300 - l.i

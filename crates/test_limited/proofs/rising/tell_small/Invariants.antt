@@ -1,9 +1,0 @@
--- `tell_small` is safe and ends: what is left of the turns falls.
-use Rattle.std.proofs.Common.{◌≡◌, ◌-◌, ◌≤◌, length}
-use Rattle.test_limited.proofs.rising.tell_small.Given as goal
-
-abbrev pub invariant-loop-n : goal.invariant-loop-n
-invariant-loop-n l = (l.n ≤ 201) × (length l.scratch ≡ length l.initial.scratch) × (length l.places ≡ length l.initial.places)
-
-abbrev pub decreases-loop-n : goal.decreases-loop-n
-decreases-loop-n l = 201 - l.n

@@ -1,9 +1,0 @@
--- The digest stays below 1,000,000,007, and what is left of the letters falls.
-use Rattle.std.proofs.Common.{◌-◌, ◌<◌, length}
-use Rattle.test_ranking.proofs.digest_letters.Given as goal
-
-abbrev pub invariant-loop-i : goal.invariant-loop-i
-invariant-loop-i l = l.digest < 1000000007
-
-abbrev pub decreases-loop-i : goal.decreases-loop-i
-decreases-loop-i l = length l.letters - l.i
