@@ -91,7 +91,7 @@ pub fn choose_chain(
         return Err(Refusal::LittleLent);
     };
     let choice = choosing::choose(n, limits, prices, first);
-    *first = [0; lent::SCRATCH];
+    lent::clear_scratch(first);
     tell_choice(choice, places)
 }
 

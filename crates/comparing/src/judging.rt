@@ -14,9 +14,6 @@ fn is_good_eight(x: u64) -> bool
     x & eights::allowed(x) == x | 3
 }
 
-// Each number of a word begins with the last letter of the one before.
-const STEP: usize = 7;
-
 // Whether a word is good: the answer of the two readers. A word of fewer than eight letters gets 3s in front, which change nothing. In
 // any other the eighth letter of a number is the first of the next, so that each two letters side by side are in one number. The last
 // number is that of the last eight letters, and may share more of them with the one before.
@@ -27,7 +24,9 @@ pub fn is_good_by_eights(letters: &[u8]) -> bool
         return is_good_eight(eights::few_letters(letters));
     }
     let last = letters.len() - 8;
-    for i in (0..last).step_by(STEP) {
+    // Each number begins with the last letter of the one before.
+    let step = 7;
+    for i in (0..last).step_by(step) {
         if !eights::follow(eights::eight_at(letters, i)) {
             return false;
         }

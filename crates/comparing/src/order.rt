@@ -27,7 +27,9 @@ pub fn in_order(u: &[u8], v: &[u8]) -> Ordering
 {
     let both = u.len().min(v.len()) / 8;
     for k in 0..both {
-        let order = eights::eight_at(u, 8 * k).cmp(&eights::eight_at(v, 8 * k));
+        let eight_u = eights::eight_at(u, 8 * k);
+        let eight_v = eights::eight_at(v, 8 * k);
+        let order = eight_u.cmp(&eight_v);
         if order != Ordering::Equal {
             return order;
         }

@@ -48,7 +48,7 @@ pub fn table_count(n: u64, scratch: &mut [u64]) -> Result<u64, Refusal>
     };
     rows::fill_down(n, 0, first);
     let count = rows::count_in(n, first);
-    *first = [0; lent::SCRATCH];
+    lent::clear_scratch(first);
     Ok(count)
 }
 
@@ -63,7 +63,7 @@ pub fn position_of(n: u64, rises: u64, scratch: &mut [u64]) -> Result<u64, Refus
         return Err(Refusal::LittleLent);
     };
     let position = back::position_in(n, rises, first);
-    *first = [0; lent::SCRATCH];
+    lent::clear_scratch(first);
     Ok(position)
 }
 
@@ -75,11 +75,11 @@ fn listed_at(n: u64, i: u64, scratch: &mut [u64; lent::SCRATCH]) -> Option<Liste
 {
     let count = rows::count_in(n, scratch);
     if count <= i {
-        *scratch = [0; lent::SCRATCH];
+        lent::clear_scratch(scratch);
         return None;
     }
     let word = forward::word_in(n, count, i, scratch);
-    *scratch = [0; lent::SCRATCH];
+    lent::clear_scratch(scratch);
     Some(Listed {
         position: i,
         rises: word.rises,

@@ -178,7 +178,7 @@ pub fn serve_record(
             let told = exponents_in(line, 2);
             tell::tell_record(out, placed.n, placed.position, told, &numbers[0..k])
         }
-        Err(refusal) => tell::tell_refusal(out, refusal),
+        Err(why) => tell::tell_refusal(out, why),
     }
 }
 

@@ -1,7 +1,7 @@
 // Standard input answered to standard output: document 01, 'Frames'. What is answered is the crate stream's; here are the calls
 // that read and write, of which no contract can say which bytes they move. What a read brings is answered, and the replies are
 // written, before the next read, so that a person at a pipe gets a reply to each line. Memory does not grow with the input.
-ghost use Rattle.std.specs.Prelude.{◌≡◌, true, false, Ok, ◌≤◌, length, take};
+ghost use Rattle.std.specs.Prelude.{◌≡◌, true, false, Ok, ◌≤◌, ◌<◌, length, take};
 ghost use Rattle.lines.specs.Stream.{finished, unfinished, last_line, replies_to};
 ghost use Rattle.frames.specs.Replies.{reply_of};
 ghost use Rattle.stream.specs.Answers.{Moves};
@@ -76,6 +76,13 @@ fn count(got: &Result<usize>, block: &[u8]) -> usize
     }
 }
 
+// How much of a block one call answered, and whether its replies were written.
+#[derive(Clone, Copy)]
+struct Part {
+    used: usize,
+    is_put: bool,
+}
+
 impl Memory {
     // Answers as much of a block as the room for replies takes. Enough is lent, so that no call is refused.
     fn take_part(&mut self, block: &[u8]) -> Progress
@@ -96,17 +103,31 @@ impl Memory {
         part
     }
 
-    // Answers a block, part by part, and tells whether the replies could be written. They stand first in `out`. Where they could, what
-    // the whole block leaves unfinished is kept.
+    // The same, and writes the replies. They stand first in `out`.
+    fn answer_part(&mut self, rt: &HostRuntime, block: &[u8]) -> Part
+        ensures moves { (result.used ≤ length block.now) × (0 < length block.now → 0 < result.used) }
+        ensures kept { Holds (unfinished (take self.old.k self.old.kept) (take result.used block.now)) self.new.kept self.new.k }
+        ensures out { Begins (replies_to reply_of (finished (take self.old.k self.old.kept) (take result.used block.now)))
+            self.new.out }
+    {
+        let taken = self.take_part(block);
+        Part {
+            used: taken.used,
+            is_put: put(rt, &self.out[0..taken.written]),
+        }
+    }
+
+    // Answers a block, part by part, and tells whether the replies could be written. Where they could, what the whole block leaves
+    // unfinished is kept.
     fn answer_bytes(&mut self, rt: &HostRuntime, block: &[u8]) -> bool
         ensures { result ≡ true → Holds (unfinished (take self.old.k self.old.kept) block.now) self.new.kept self.new.k }
     {
         let mut at = 0;
         // A call tells how much of the block it used, so no iterator knows the parts beforehand.
         while at < block.len() {
-            let part = self.take_part(&block[at..]);
+            let part = self.answer_part(rt, &block[at..]);
             at += part.used;
-            if !put(rt, &self.out[0..part.written]) {
+            if !part.is_put {
                 return false;
             }
         }
@@ -115,15 +136,17 @@ impl Memory {
 
     // Answers what is kept at the end of the input, and tells how many bytes of a reply it wrote to memory.
     fn take_rest(&mut self) -> usize
-        ensures { (result ≤ length self.new.out)
+        ensures out { (result ≤ length self.new.out)
             × (take result self.new.out ≡ replies_to reply_of (last_line (take self.old.k self.old.kept))) }
+        ensures kept { (self.new.kept ≡ self.old.kept) × (self.new.k ≡ self.old.k) }
     {
         stream::answer_end(&self.kept, self.k, &mut self.scratch, &mut self.out).unwrap()
     }
 
     // The same, and writes the reply. It stands first in `out`.
     fn answer_rest(&mut self, rt: &HostRuntime)
-        ensures { Begins (replies_to reply_of (last_line (take self.old.k self.old.kept))) self.new.out }
+        ensures out { Begins (replies_to reply_of (last_line (take self.old.k self.old.kept))) self.new.out }
+        ensures kept { (self.new.kept ≡ self.old.kept) × (self.new.k ≡ self.old.k) }
     {
         let written = self.take_rest();
         put(rt, &self.out[0..written]);

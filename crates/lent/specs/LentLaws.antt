@@ -2,12 +2,13 @@
 --
 -- In this order: zeros, also those that the library's `fill` leaves; the length is kept; a part of that size that was zeroed; what is
 -- given, put over the zeros; memory of which only the first may have changed; whether too little is lent, and the memory at exit, in
--- each case.
+-- each case, also where the first of it were lent on as an array.
 use Rattle.std.specs.Prelude.{◌≡◌, refl, Bool, true, false, ◌||◌, List, [], ◌++◌, ℕ, zero, suc, ◌+◌, ◌-◌, ◌≤◌, ◌<◌, length, get_or, take, drop, replicate}
-use Rattle.std.proofs.Common.{sym, ap, ◌∙◌, true≢false, append_assoc, arith, length-append, length-drop, length-take-le, drop_at}
+use Rattle.std.proofs.Common.{sym, ap, ◌∙◌, true≢false, append_assoc, append-nil, arith, length-append, length-drop, length-take-le, drop_of_length-le, drop_at}
 use Rattle.std.proofs.Math.Bool.{or-true}
 use Rattle.std.proofs.lemmas.List.{length-replicate, replicate-append-replicate}
 use Rattle.std.proofs.Math.Seq.{take-append_seam}
+use native.Mathlib.Nat.{sub-zero}
 use borrow.Author.Tests.{le-ltb, lt-ltb}
 use borrow.Rule.Slice.PartMut.{mid_of, put_mid}
 use Rattle.lent.specs.Lent.{zeros, filled, OnlyFirst, fewer, too_few, Lends, memory_left}
@@ -150,6 +151,18 @@ module _ {size : ℕ} where
   -- The same of a service that is lent no places.
   pub served_zeroed : (s : List ℕ) → size ≤ length s → memory_left size (fewer size s) s ≡ filled size [] s
   served_zeroed s h = left_zeroed size (fewer size s) s (scratch_enough s h)
+
+  -- Memory of just that size is zero throughout: so is an array that a service works in.
+  pub whole_zeroed : (s : List ℕ) → length s ≡ size → memory_left size (fewer size s) s ≡ zeros size
+  unfolding filled
+  whole_zeroed s e =
+      rw (served_zeroed s (omega (arith, e)), drop_of_length-le s {i = size} (omega (arith, e)), sub-zero size) (append-nil (zeros size))
+
+  -- The first of the memory s were lent on as an array, which was t when it was zeroed, and is put back.
+  pub whole_back : (s t : List ℕ) {ys : List ℕ} → length t ≡ size → ys ≡ memory_left size (fewer size t) t
+      → ys ++ drop size s ≡ filled size [] s
+  unfolding filled
+  whole_back s t e z = rw (z, whole_zeroed t e, sub-zero size)
 
   pub refused_untouched : (s : List ℕ) → length s < size → memory_left size (fewer size s) s ≡ s
   refused_untouched s h = left_untouched size (fewer size s) s (scratch_little s h)

@@ -51,7 +51,7 @@ pub fn cheapest_chain(
         return Err(Refusal::LittleLent);
     };
     let choice = choosing::choose(n, limits, prices, first);
-    *first = [0; TABLE];
+    lent::clear_first(first, TABLE);
     best::tell_choice(choice, places)
 }
 
@@ -68,6 +68,6 @@ pub fn count_up_to(n: u64, parts: u8, scratch: &mut [u64]) -> Result<u64, Refusa
         return Err(Refusal::LittleLent);
     };
     let count = choosing::count(n, parts, first);
-    *first = [0; TABLE];
+    lent::clear_first(first, TABLE);
     Ok(count)
 }

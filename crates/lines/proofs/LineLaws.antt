@@ -2,7 +2,7 @@
 -- In order: one field; several fields; kinds and their bytes; lengths; which lines are refused, and which are fit; a shape in
 -- numbers; a line's first 515 characters; reading the items of a line.
 use Rattle.std.specs.Prelude.{◌≡◌, refl, ◌↔◌, Bool, true, false, cond, Option, Some, None, Result, Ok, Err, ok_or, ◌&&◌, ◌||◌, List, [], ◌∷◌, ◌++◌, eqb, ltb, leb, take, drop, get_or}
-use Rattle.std.proofs.Common.{sym, ap, ◌∙◌, mul-suc, mul-zero, mul-add, add-zero, add_assoc, add_comm, length-take, length-drop, drop_of_length-le, take_all, take-add, drop-drop}
+use Rattle.std.proofs.Common.{sym, ap, ◌∙◌, mul-suc, mul-zero, mul-add, add-zero, add_assoc, add_comm, length-take, length-drop, drop_of_length-le, take_all, take-add, drop-drop, mod-eq_of_lt}
 use Rattle.std.proofs.Math.Bool.{or-true, and-eq-true_iff}
 use Rattle.refusals.specs.Refusals.{number_of as refusal_number}
 use Rattle.refusals.specs.declared.Refusal.{Refusal}
@@ -37,6 +37,13 @@ field_below line at k = number_below (2 * k) (take (2 * k) (drop (2 * at) line))
 pub field_fits : (line : List ℕ) (at k : ℕ) → k ≤ 8 → field line at k % 2 ^ 64 ≡ field line at k
 unfolding field
 field_fits line at k h = number_fits (take (2 * k) (drop (2 * at) line)) (omega (arith, length_field line at k))
+
+-- What is told of a number of k bytes by its remainder by 16 ^ (2 * k), and of a field of k bytes.
+pub number_whole : (k : ℕ) (part : List ℕ) (x : ℕ) → length part ≡ 2 * k → x ≡ number_of part → x % 16 ^ (2 * k) ≡ number_of part
+number_whole k part x n e = rw e (mod-eq_of_lt (number_below (2 * k) part (omega arith)))
+
+pub field_whole : (line : List ℕ) (at k : ℕ) → k ≤ 8 → field line at k % 2 ^ 64 % 16 ^ (2 * k) ≡ field line at k
+field_whole line at k h = rw (field_fits line at k h) (mod-eq_of_lt (field_below line at k))
 
 -- Two fields one after the other are one field.
 pub field_split : (line : List ℕ) (at j k : ℕ) → 2 * at + 2 * (j + k) ≤ length line

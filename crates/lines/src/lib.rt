@@ -3,38 +3,49 @@
 // any input.
 #![tactic(auto)]
 
-ghost use Rattle.std.specs.Prelude.{◌≡◌, ◌++◌, ◌+◌, ◌*◌, ◌%◌, ◌^◌, ◌≤◌, ◌<◌, ℕ, length, drop, map, ok_or};
+ghost use Rattle.std.specs.Prelude.{◌≡◌, Ok, ◌++◌, ◌+◌, ◌*◌, ◌%◌, ◌^◌, ◌≤◌, ◌<◌, ℕ, length, drop, map, ok_or};
+ghost use Rattle.digits.specs.Digits.{number_of};
 ghost use Rattle.refusals.specs.declared.Refusal.TheVariants.{UnknownKind};
 ghost use Rattle.std.proofs.Common.{lit≤};
 ghost use Rattle.lines.specs.Kinds.{kind_of, row_of};
-ghost use Rattle.lines.specs.Lines.{field, fields, bytes_in, count_in, shape_of, read_items, items_count, items_left};
+ghost use Rattle.lines.specs.Lines.{field, fields, bytes_in, count_in, shape_of, shape_code, read_items, items_count, items_left};
 
 use refusals::Refusal;
 
-// What a line is or asks for, by its first byte.
+// What a line is or asks for. The number of a kind is the first byte of its lines.
 #[derive(Clone, Copy, PartialEq, Eq)]
 pub enum Kind {
     // A count.
-    Count,
+    Count = 1,
     // The best chain.
-    Best,
+    Best = 2,
     // The chain at a position.
-    At,
+    At = 3,
     // A burned record.
-    Record,
+    Record = 4,
     // A word.
-    Word,
+    Word = 5,
     // The chain next to a word's.
-    Next,
+    Next = 6,
     // A chain to run.
-    Run,
+    Run = 7,
     // A tree word.
-    Tree,
+    Tree = 8,
     // A record whose tree word is asked for.
-    ToTree,
+    ToTree = 9,
 }
 
-// Nothing else in the code says which bytes are those of kinds.
+// The byte of a kind, as a shape in numbers tells it.
+impl From<Kind> for u8 {
+    ghost from_gives = { λ kind byte. shape_code (Ok kind) ≡ Ok byte };
+
+    #[tactic(auto, unfolding(crate::specs::Lines::shape_code, crate::specs::Kinds::row_of))]
+    fn from(kind: Kind) -> u8 {
+        kind as u8
+    }
+}
+
+// The kind of a byte. Every other byte is refused.
 impl TryFrom<u8> for Kind {
     type Error = Refusal;
 
@@ -142,10 +153,9 @@ trait Item: Copy {
 
     const WIDTH: usize;
 
-    // The item of a number that has so many bytes.
+    // The item of a number, which is the number itself where it has no more bytes than an item.
     fn of(number: u64) -> Self
-        requires { number < 16 ^ (2 * WIDTH) }
-        ensures { value result ≡ number };
+        ensures { value result ≡ number % 16 ^ (2 * WIDTH) };
 
     ghost narrow: { WIDTH ≤ 8 };
 }
@@ -158,7 +168,7 @@ impl Item for u8 {
     const WIDTH: usize = 1;
 
     fn of(number: u64) -> u8 {
-        number as u8
+        (number % 256) as u8
     }
 
     ghost narrow = { lit≤ tt };
@@ -173,7 +183,7 @@ impl Item for u16 {
     const WIDTH: usize = 2;
 
     fn of(number: u64) -> u16 {
-        number as u16
+        (number % 65536) as u16
     }
 
     ghost narrow = { lit≤ tt };
@@ -218,6 +228,15 @@ pub fn shape_of(line: &[u8]) -> Result<Kind, Refusal>
     Ok(kind)
 }
 
+// The item that some characters stand for, two of them for each of its bytes.
+fn item_of<T: Item>(part: &[u8]) -> T
+    requires { length part.now ≡ 2 * T.WIDTH }
+    ensures { T.value result ≡ number_of part.now }
+{
+    let number = digits::read_number(part);
+    T::of(number)
+}
+
 // Values of so many bytes each, `count` of them from byte `from` on, at the start of `places`.
 fn read_fields<T: Item>(line: &[u8], from: usize, count: usize, places: &mut [T])
     requires { (2 * (from + T.WIDTH * count) ≤ length line.now) × (count ≤ length places.old) }
@@ -226,7 +245,7 @@ fn read_fields<T: Item>(line: &[u8], from: usize, count: usize, places: &mut [T]
     for i in 0..count {
         let start = 2 * (from + T::WIDTH * i);
         let end = start + 2 * T::WIDTH;
-        places[i] = T::of(digits::read_number(&line[start..end]));
+        places[i] = item_of(&line[start..end]);
     }
 }
 

@@ -271,7 +271,13 @@ pub extern "C" fn meltsjuk_place(numbers: &[u16], scratch: &mut [u64], position:
         ≡ position_or (place_asked scratch.old numbers.now) position.old }
     ensures scratch { scratch.new ≡ scratch_left (little_scratch scratch.old) scratch.old }
 {
-    put(ranking::place_record(numbers, scratch), position)
+    match ranking::place_record(numbers, scratch) {
+        Ok(told) => {
+            *position = told;
+            0
+        }
+        Err(refusal) => u8::from(refusal),
+    }
 }
 
 // The chain whose part numbers are `numbers`, largest part first, run on x modulo m, as `running::run_chain` does. Answers 0 with

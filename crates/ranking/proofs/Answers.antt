@@ -1,7 +1,7 @@
 -- How the answers and the lent memory of the services come out, case by case. In order: a part of what is lent; a scratch too small,
 -- and one that is not; a record that is placed; a record and a word in two numbers; the chain at a position; too little lent to a
 -- service with places, and enough.
-use Rattle.std.proofs.Common.{Some, None, Result, Ok, Err, ◌++◌, ◌-◌, drop, take-append-drop, drop_of_length-le, length-take-le, append_assoc, append-nil}
+use Rattle.std.proofs.Common.{Some, None, Result, Ok, Err, ◌++◌, ◌-◌, drop, take-append-drop, drop_of_length-le, length-take-le, append_assoc}
 use Rattle.std.specs.Array.{IsFirstChunk}
 use mathlib.Core.Path.{◌≡◌, refl, sym, ap, ◌∙◌}
 use mathlib.Core.Logic.{◌⊎◌, inl, inr}
@@ -15,7 +15,7 @@ use lib.Ieee.Bits.{is_true}
 use lib.ListN.{length}
 use borrow.Author.Tests.{le-ltb, lt-ltb}
 use Rattle.lent.specs.Lent.{zeros, filled, scratch_size, little_scratch, too_little, scratch_left, memory_left}
-use Rattle.lent.specs.LentLaws.{scratch_little, scratch_enough, enough, served_zeroed}
+use Rattle.lent.specs.LentLaws.{scratch_little, scratch_enough, enough, whole_zeroed}
 use Rattle.chains.specs.Chains.{total}
 use Rattle.chains.specs.Words.{Word, word_of, chain_of, reads}
 use Rattle.chains.specs.Listing.{list_of, count, count_before, position, chain_at}
@@ -56,8 +56,7 @@ part_back {s} {k = k} h = rw h.same (take-append-drop k s)
 
 -- is zeroed by a service that is lent it,
 pub all_zeroed : (t : List ℕ) → length t ≡ scratch_size → scratch_left (little_scratch t) t ≡ zeros scratch_size
-unfolding filled
-all_zeroed t e = served_zeroed t (le_of_eq (sym e)) ∙ rw (drop_of_length-le t (le_of_eq e), append-nil (zeros scratch_size)) refl
+all_zeroed t e = whole_zeroed t e
 
 -- and given back.
 zeroed_back : (s : List ℕ) {t' : List ℕ} → t' ≡ zeros scratch_size → t' ++ drop scratch_size s ≡ filled scratch_size [] s

@@ -20,7 +20,7 @@ pub fn refuse<T>(refusal: Refusal, scratch: &mut [u64; lent::SCRATCH]) -> Result
     ensures value { result ≡ Err refusal }
     ensures scratch_after { scratch.new ≡ zeros scratch_size }
 {
-    *scratch = [0; lent::SCRATCH];
+    lent::clear_scratch(scratch);
     Err(refusal)
 }
 

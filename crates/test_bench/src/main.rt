@@ -21,8 +21,7 @@ mod walks;
 
 use refusals::Refusal;
 use std::io;
-use std::io::Read;
-use test_kit::{Record, mark};
+use test_kit::{Record, Regardless, mark, read_block};
 use trial::Trial;
 
 // A chain of a number to 300: it is added to the tally of its number.
@@ -72,11 +71,10 @@ fn try_record(rt: &impl Print, trial: &mut Trial, numbers: &[u16]) -> io::Result
     }
 }
 
-// Each line of the input, whose first 65,536 characters are read.
-fn try_lines(rt: &(impl Print + Input), trial: &mut Trial) -> io::Result<()> {
+fn try_lines(rt: &impl Print, trial: &mut Trial, text: &[u8]) -> io::Result<()> {
     let mut record = Record::<66>::new();
-    for c in rt.reader().bytes().take(65536) {
-        match c? {
+    for c in text {
+        match *c {
             b'\n' => {
                 try_record(rt, trial, record.numbers())?;
                 record = Record::new();
@@ -87,10 +85,17 @@ fn try_lines(rt: &(impl Print + Input), trial: &mut Trial) -> io::Result<()> {
     Ok(())
 }
 
-fn main(rt: HostRuntime) -> io::Result<()> {
+fn tell_all(rt: &impl Print, text: &[u8]) -> io::Result<()> {
     let mut trial = Trial::new();
-    try_lines(&rt, &mut trial)?;
-    trial.end(&rt)?;
+    try_lines(rt, &mut trial, text)?;
+    trial.end(rt)?;
     println!(rt; "refusals")?;
-    refused::tell_all(&rt)
+    refused::tell_all(rt)
+}
+
+// The first 65,536 characters of the input are read.
+fn main(rt: HostRuntime) {
+    let mut text = [0; 65536];
+    let n = read_block(&mut rt.stdin(), &mut text);
+    let _ = tell_all(&Regardless(&rt), &text[..n]);
 }

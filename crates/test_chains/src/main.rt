@@ -5,8 +5,7 @@
 
 use std::cmp::Ordering;
 use std::io;
-use std::io::Read;
-use test_kit::{Record, Told, first};
+use test_kit::{Record, Regardless, Told, first, read_block};
 
 // The last word printed, to compare the next one with. No heap: an array with the length beside it.
 #[derive(Clone, Copy)]
@@ -53,15 +52,14 @@ fn print_record(rt: &impl Print, numbers: &[u16], last: Last) -> io::Result<Last
     Ok(next)
 }
 
-// Each line of the input, whose first 65,536 characters are read.
-fn answer(rt: &(impl Print + Input)) -> io::Result<()> {
+fn answer(rt: &impl Print, text: &[u8]) -> io::Result<()> {
     let mut record = Record::<64>::new();
     let mut last = Last {
         letters: [0; 64],
         length: 0,
     };
-    for c in rt.reader().bytes().take(65536) {
-        match c? {
+    for c in text {
+        match *c {
             b'\n' => {
                 last = print_record(rt, record.numbers(), last)?;
                 record = Record::new();
@@ -72,6 +70,9 @@ fn answer(rt: &(impl Print + Input)) -> io::Result<()> {
     Ok(())
 }
 
-fn main(rt: HostRuntime) -> io::Result<()> {
-    answer(&rt)
+// The first 65,536 characters of the input are read.
+fn main(rt: HostRuntime) {
+    let mut text = [0; 65536];
+    let n = read_block(&mut rt.stdin(), &mut text);
+    let _ = answer(&Regardless(&rt), &text[..n]);
 }

@@ -1,6 +1,6 @@
 // How answers are printed.
 ghost use Rattle.std.specs.Prelude.{◌≡◌, take, Some};
-ghost use Rattle.test_kit.specs.Printed.{told_text, or_dash, number_told};
+ghost use Rattle.test_kit.specs.Printed.{told_text, or_dash, number_told, spaced};
 
 use refusals::Refusal;
 use std::fmt;
@@ -35,6 +35,8 @@ pub fn number_of(answer: Result<u64, Refusal>) -> u64
 pub struct Spaced<'a, T>(pub &'a [T]);
 
 impl<'a, T: fmt::Display> fmt::Display for Spaced<'a, T> {
+    ghost output = { λ s. spaced T.output s.0.now };
+
     fn fmt<W: fmt::Write>(&self, f: &mut fmt::Formatter<W>) -> fmt::Result {
         for x in self.0 {
             write!(f, " {x}")?;

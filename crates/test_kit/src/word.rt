@@ -1,5 +1,5 @@
 // Words of few letters.
-ghost use Rattle.std.specs.Prelude.{◌≡◌, ◌≤◌, ◌<◌, length, set, replicate, drop};
+ghost use Rattle.std.specs.Prelude.{◌≡◌, ◌≤◌, length, set, replicate, drop};
 
 // A word of up to five letters: those from `start` on. No heap: an array with the start beside it.
 #[derive(Clone, Copy)]
@@ -17,15 +17,15 @@ impl Word {
     }
 }
 
-// The words of some letters in the order of their lengths, the empty one first.
+// The words of some letters in the order of their lengths, the empty one first. Of no letters there is the empty word alone.
 pub fn spell(alphabet: &[u8], index: usize) -> Word
-    requires { 0 < length alphabet.now }
     ensures empty { index ≡ 0 → result.start ≡ 5 }
+    ensures no_letters { length alphabet.now ≡ 0 → result.start ≡ 5 }
 {
     let mut letters = [0; 5];
     let mut rest = index;
     for start in (0..5).rev() {
-        if rest == 0 {
+        if rest == 0 || alphabet.is_empty() {
             return Word {
                 letters,
                 start: start + 1,
@@ -38,13 +38,14 @@ pub fn spell(alphabet: &[u8], index: usize) -> Word
     Word { letters, start: 0 }
 }
 
-// A letter, `count` times, then a 3, and the letter again.
+// A letter, `count` times, then a 3, and the letter again. From 255 times on there is no place for the 3.
 pub fn long_word(letter: u8, count: usize) -> [u8; 255]
-    requires { count < 255 }
     ensures length { length result ≡ 255 }
     ensures value { result ≡ set (replicate 255 letter) count 3 }
 {
     let mut word = [letter; 255];
-    word[count] = 3;
+    if count < word.len() {
+        word[count] = 3;
+    }
     word
 }

@@ -3,17 +3,21 @@
 #![tactic(auto)]
 
 use std::io;
-use test_kit::Told;
+use test_kit::{Regardless, Told};
 
 fn tell(rt: &impl Print, n: u64) -> io::Result<()> {
     println!(rt; "{}", Told(counting::plain_count(n)))
 }
 
-fn main(rt: HostRuntime) -> io::Result<()> {
+fn tell_all(rt: &impl Print) -> io::Result<()> {
     for n in 0..2001 {
-        tell(&rt, n)?;
+        tell(rt, n)?;
     }
-    tell(&rt, 65536)?;
-    tell(&rt, u64::MAX)?;
-    tell(&rt, 65535)
+    tell(rt, 65536)?;
+    tell(rt, u64::MAX)?;
+    tell(rt, 65535)
+}
+
+fn main(rt: HostRuntime) {
+    let _ = tell_all(&Regardless(&rt));
 }

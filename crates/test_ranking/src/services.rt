@@ -1,5 +1,5 @@
 // One call of each service, with what it leaves in the lent memory, which is full of ones at each call.
-ghost use Rattle.std.specs.Prelude.{◌≤◌};
+ghost use Rattle.std.specs.Prelude.{◌≤◌, ◌<◌};
 
 use ranking::{Found, Placed};
 use refusals::Refusal;
@@ -78,7 +78,9 @@ where
 }
 
 // One number more.
-fn digest_with(digest: u64, x: u64) -> u64 {
+fn digest_with(digest: u64, x: u64) -> u64
+    ensures { result < 1000000007 }
+{
     digest.wrapping_mul(1361).wrapping_add(x).wrapping_add(1) % 1000000007
 }
 
@@ -178,23 +180,26 @@ pub struct Refusals {
     pub right: bool,
 }
 
-fn refused_by(scratch: &mut [u64], places: &mut [u16]) -> Refusals {
+fn refused_by(scratch: &mut [u64], places: &mut [u16]) -> [Result<Chain, Refusal>; 3] {
     let at = ranking::chain_at(19, 3, scratch, places);
+    let at = chain_in(at, places);
     let word = ranking::read_word(b"\x03\x02\x00\x03", scratch, places);
+    let word = chain_in(word, places);
     let next = ranking::next_chain(b"\x01\x01\x00\x00\x03", scratch, places);
-    Refusals {
-        at: chain_in(at, places),
-        word: chain_in(word, places),
-        next: chain_in(next, places),
-        right: are_all(scratch, 0, &u64::MAX) & are_all(places, 0, &u16::MAX),
-    }
+    [at, word, chain_in(next, places)]
 }
 
-// The scratch or `count` places are too little: nothing is touched.
+// The scratch or `count` places are too little: nothing is touched, nor what stands behind them.
 pub fn refused_little(lent: Lent, count: usize) -> Refusals
     requires { count ≤ 70 }
 {
     let mut scratch = [u64::MAX; LARGEST];
     let mut places = [u16::MAX; 70];
-    refused_by(&mut scratch[..lent.size], &mut places[..count])
+    let [at, word, next] = refused_by(&mut scratch[..lent.size], &mut places[..count]);
+    Refusals {
+        at,
+        word,
+        next,
+        right: is_left(&scratch, 0) & are_all(&places, 0, &u16::MAX),
+    }
 }

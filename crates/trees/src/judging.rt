@@ -21,8 +21,9 @@ pub fn judge(letters: &[u8]) -> Result<u64, Refusal>
         return Err(Refusal::NoTreeWord);
     }
     let n = numbers::weigh(letters).ok_or(Refusal::TooLarge)?;
-    if !producing::is_produced(letters, n) {
-        return Err(Refusal::NoTreeWord);
+    if producing::is_produced(letters, n) {
+        Ok(n)
+    } else {
+        Err(Refusal::NoTreeWord)
     }
-    Ok(n)
 }

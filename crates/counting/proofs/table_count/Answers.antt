@@ -1,9 +1,8 @@
 -- `table_count` meets its contract: the rows are filled where there is room for them, the count is read in the first cell, and the
 -- scratch is zeroed.
 use Rattle.std.proofs.Common.{Ok}
-use Rattle.std.proofs.Common.{sym, ap, ◌∙◌}
-use Rattle.lent.specs.Lent.{filled, zeros}
-use Rattle.lent.specs.LentLaws.{served_zeroed, refused_untouched}
+use Rattle.std.proofs.Common.{sym, ap, ◌∙◌, rules}
+use Rattle.lent.specs.LentLaws.{whole_back, served_zeroed, refused_untouched}
 use Rattle.counting.specs.TableLaws.{counted_served, counted_refused}
 use Rattle.counting.proofs.table_count.Goals as goal
 
@@ -16,6 +15,5 @@ count_in-count-requires c =
     c.fill_down.ensures.rows
 
 pub returns : goal.returns
-unfolding filled zeros
 returns c =
-    let h = c.in-Some.ensures.cases.enough in record { value = ap Ok c.count_in-count.ensures ∙ sym (counted_served _ _ h); scratch_after = sym (served_zeroed _ h) }
+    let h = c.in-Some.ensures.cases.enough in record { value = ap Ok c.count_in-count.ensures ∙ sym (counted_served _ _ h); scratch_after = whole_back _ _ (search rules) c.clear_scratch.ensures ∙ sym (served_zeroed _ h) }

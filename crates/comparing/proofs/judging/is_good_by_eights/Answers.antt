@@ -12,7 +12,7 @@ use Rattle.chains.specs.Words.{Word, reads}
 use Rattle.comparing.specs.Eights.{all_follow}
 use Rattle.comparing.specs.FollowLaws.{reads_drop, reads_false, reads_threes}
 use Rattle.comparing.proofs.judging.is_good_by_eights.Invariants.{AsGood}
-use Rattle.comparing.proofs.judging.is_good_by_eights.Goals.{else-loop-i-test, then-loop-i-test+else-not-follow+else-last-i-gt7}
+use Rattle.comparing.proofs.judging.is_good_by_eights.Goals.{else-loop-i-test, then-loop-i-test+else-not-follow+else-step-last}
 use Rattle.comparing.proofs.judging.is_good_by_eights.Goals as goal
 
 module _ (l : Word) where
@@ -62,7 +62,7 @@ returns c =
     let w = c.args.letters.now in
     let good : AsGood w (length w - 8) = elim c.loop-i-test.branch [
       | else-loop-i-test b ↦ λ j h. c.loop-i.invariant j (omega arith)
-      | then-loop-i-test+else-not-follow+else-last-i-gt7 b ↦
+      | then-loop-i-test+else-not-follow+else-step-last b ↦
           λ j h. further w c.loop-i.i c.loop-i.invariant 7 (omega arith) (omega arith)
           (sym (b.follow.ensures _ b.eight_at.ensures) ∙ b.if-not-follow.false) j (omega arith)
     ] in

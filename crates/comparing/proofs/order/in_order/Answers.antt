@@ -22,7 +22,7 @@ step u v k x y p q =
 pub loop-k-preserved : goal.loop-k-preserved
 loop-k-preserved c =
     c.loop-k.invariant
-    ∙ step _ _ c.loop-k.k _ _ c.eight_at.ensures c.eight_at-in-loop-k.ensures
+    ∙ step _ _ c.loop-k.k _ _ c.eight_at-eight_u.ensures c.eight_at-eight_v.ensures
     ∙ ap (λ o. ordering_then o (order_of (drop (8 * (c.loop-k.k + 1)) c.args.u.now) (drop (8 * (c.loop-k.k + 1)) c.args.v.now)))
     (sym c.cmp-order.ensures)
     ∙ passed c.cmp-order.result _ (sym c.ne.ensures ∙ c.if-ne.false)
@@ -31,7 +31,7 @@ pub returns-then-ne : goal.returns-then-ne
 returns-then-ne c =
     decided c.cmp-order.result _ (sym c.ne.ensures ∙ c.if-ne.true)
     ∙ ap (λ o. ordering_then o (order_of (drop (8 * (c.loop-k.k + 1)) c.args.u.now) (drop (8 * (c.loop-k.k + 1)) c.args.v.now))) c.cmp-order.ensures
-    ∙ sym (c.loop-k.invariant ∙ step _ _ c.loop-k.k _ _ c.eight_at.ensures c.eight_at-in-loop-k.ensures)
+    ∙ sym (c.loop-k.invariant ∙ step _ _ c.loop-k.k _ _ c.eight_at-eight_u.ensures c.eight_at-eight_v.ensures)
 
 pub singly-requires : goal.singly-requires
 singly-requires c = (omega arith, omega arith)

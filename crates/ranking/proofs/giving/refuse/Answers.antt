@@ -1,8 +1,7 @@
 -- `giving::refuse` meets its contract: the scratch is zeroed.
-use Rattle.std.proofs.Common.{refl}
-use Rattle.lent.specs.Lent.{zeros}
+use Rattle.std.proofs.Common.{refl, ◌∙◌}
+use Rattle.lent.specs.LentLaws.{whole_zeroed}
 use Rattle.ranking.proofs.giving.refuse.Goals as goal
 
 pub returns : goal.returns
-unfolding zeros
-returns g c = record { value = refl; scratch_after = refl }
+returns g c = record { value = refl; scratch_after = c.clear_scratch.ensures ∙ whole_zeroed _ c.told-scratch }

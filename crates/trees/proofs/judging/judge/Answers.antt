@@ -57,12 +57,12 @@ returns-in_err-n c =
     let p = err_from_is_err_and c.from_residual.result c.from_residual.ensures.1 in
     rw (p.1, p.2) (refused _ _ c.is_foreign.ensures c.if-is_foreign.false _ c.weigh.ensures _ (sym c.ok_or.ensures.value ∙ c.in_err-n.was))
 
-pub returns-then-not-is_produced : goal.returns-then-not-is_produced
-returns-then-not-is_produced c =
-    not_made _ _ c.is_foreign.ensures c.if-is_foreign.false c.in_ok-n.n (search rules)
-    (told _ _ _ c.weigh.ensures (sym c.ok_or.ensures.value ∙ c.in_ok-n.was)) _ c.is_produced.ensures c.if-not-is_produced.true
-
-pub returns : goal.returns
-returns c =
+pub returns-then-is_produced : goal.returns-then-is_produced
+returns-then-is_produced c =
     made _ _ c.is_foreign.ensures c.if-is_foreign.false c.in_ok-n.n (search rules)
-    (told _ _ _ c.weigh.ensures (sym c.ok_or.ensures.value ∙ c.in_ok-n.was)) _ c.is_produced.ensures c.if-not-is_produced.false
+    (told _ _ _ c.weigh.ensures (sym c.ok_or.ensures.value ∙ c.in_ok-n.was)) _ c.is_produced.ensures c.if-is_produced.true
+
+pub returns-else-is_produced : goal.returns-else-is_produced
+returns-else-is_produced c =
+    not_made _ _ c.is_foreign.ensures c.if-is_foreign.false c.in_ok-n.n (search rules)
+    (told _ _ _ c.weigh.ensures (sym c.ok_or.ensures.value ∙ c.in_ok-n.was)) _ c.is_produced.ensures c.if-is_produced.false

@@ -10,5 +10,5 @@ loop-at-init c =
 
 pub loop-at-preserved : goal.loop-at-preserved
 loop-at-preserved c =
-    let q = c.take_part-part in
+    let q = c.answer_part-part in
     (search rules, holds_more _ c.args.block.now _ c.loop-at.at _ _ q.result.used _ c.loop-at.invariant.1 q.ensures.kept)

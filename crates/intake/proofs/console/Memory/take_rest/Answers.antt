@@ -7,6 +7,6 @@ pub unwrap-requires : goal.unwrap-requires
 unwrap-requires c =
     is_served _ (end_not_refused _ _ _ _ c.args.self.now.ready.enough _ c.answer_end.ensures.answer)
 
-pub returns : goal.returns
-returns c =
+pub returns-clause-out : goal.returns-clause-out
+returns-clause-out c =
     end_written _ _ _ _ c.args.self.now.ready.enough _ c.answer_end.ensures.answer _ _ c.unwrap.ensures c.answer_end.ensures.out
