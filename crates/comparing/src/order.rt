@@ -1,6 +1,7 @@
 // The dictionary's order of two words, good or not.
 ghost use Rattle.std.specs.Prelude.{◌≡◌, ◌≤◌, length, drop};
 ghost use Rattle.comparing.specs.Answers.{order_of};
+ghost use Rattle.std.specs.Ordering.{nat_cmp};
 
 use super::eights;
 use std::cmp::Ordering;
@@ -20,6 +21,13 @@ fn singly(u: &[u8], v: &[u8], from: usize) -> Ordering
     u.len().cmp(&v.len())
 }
 
+// How one number stands to another, of eight letters each.
+fn number_order(x: u64, y: u64) -> Ordering
+    ensures { result ≡ nat_cmp x y }
+{
+    x.cmp(&y)
+}
+
 // How u stands to v: eight letters at a time while both have eight left, the tail singly. With std's order of the whole words a
 // comparison of words of 12 to 30 letters takes 39 ns, and 31 ns so (speed/sorting).
 pub fn in_order(u: &[u8], v: &[u8]) -> Ordering
@@ -29,7 +37,7 @@ pub fn in_order(u: &[u8], v: &[u8]) -> Ordering
     for k in 0..both {
         let eight_u = eights::eight_at(u, 8 * k);
         let eight_v = eights::eight_at(v, 8 * k);
-        let order = eight_u.cmp(&eight_v);
+        let order = number_order(eight_u, eight_v);
         if order != Ordering::Equal {
             return order;
         }

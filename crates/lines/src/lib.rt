@@ -221,7 +221,10 @@ pub fn shape_of(line: &[u8]) -> Result<Kind, Refusal>
     if !digits::all_digits(line) {
         return Err(Refusal::NoDigit);
     }
-    let kind = kind_of(line)?;
+    let kind = match kind_of(line) {
+        Ok(kind) => kind,
+        Err(why) => return Err(why),
+    };
     if n / 2 != kind.bytes_in(line) {
         return Err(Refusal::BadLength);
     }

@@ -9,15 +9,18 @@
 
 ghost use Rattle.std.specs.Prelude.{◌≡◌, ◌≤◌, ◌<◌, length, take};
 
+use refusals::Refusal;
 use std::cmp::Ordering;
 use std::io;
 use test_kit::{Regardless, Word, long_word, spell};
 
+// A sign is written as it is, since 234,000 of them take a quarter more time where each is formatted.
 fn print_compared(rt: &impl Print, u: &[u8], v: &[u8]) -> io::Result<()> {
     match comparing::compare_words(u, v) {
-        Ok(Ordering::Less) => print!(rt; "<"),
-        Ok(Ordering::Equal) => print!(rt; "="),
-        Ok(Ordering::Greater) => print!(rt; ">"),
+        Ok(Ordering::Less) => rt.write_all(b"<"),
+        Ok(Ordering::Equal) => rt.write_all(b"="),
+        Ok(Ordering::Greater) => rt.write_all(b">"),
+        Err(Refusal::BadWord) => rt.write_all(b"7"),
         Err(r) => print!(rt; "{}", u8::from(r)),
     }
 }

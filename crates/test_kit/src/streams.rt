@@ -48,6 +48,7 @@ pub fn read_block<R: Read>(input: &mut R, block: &mut [u8]) -> usize
     ensures bytes { Consumes (R.remaining input.old) (R.remaining input.new) (take result block.new) }
 {
     let mut done = 0;
+    // A read tells how much it brought, so no iterator knows the reads beforehand.
     while done < block.len() {
         match input.read(&mut block[done..]) {
             Ok(n) if 0 < n => done += n,

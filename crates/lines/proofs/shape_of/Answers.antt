@@ -1,6 +1,5 @@
 -- `shape_of` answers the line's shape: each test is that of `shape_of`, in its order.
 use Rattle.std.proofs.Common.{◌∙◌, sym, ap, length, Err, arith}
-use Rattle.std.proofs.lemmas.Result.{err_from_is_err_and}
 use Rattle.lines.specs.Lines.{Proper}
 use Rattle.lines.proofs.LineLaws.{bad_none, bad_odd, bad_long, unfit_length, unfit_character, shape_kind, unfit_kind, unfit_kind_length, fit_kind_length, kind_told, kind_refused}
 use Rattle.lines.proofs.shape_of.Goals.{then-n-eq0-via-then-n-eq0, then-n-eq0-via-else-n-eq0+then-n-eq1, then-n-eq0-via-else-n-eq0+else-n-eq1+then-n-gt514}
@@ -20,19 +19,18 @@ returns-then-not-all_digits c =
     let proper : Proper (length c.args.line.now) = omega arith in
     sym (unfit_character c.args.line.now proper (sym c.all_digits.ensures ∙ c.if-not-all_digits.true))
 
-pub returns-in_err-kind : goal.returns-in_err-kind
-returns-in_err-kind c =
+pub returns-in-Err : goal.returns-in-Err
+returns-in-Err c =
     let shape = shape_kind c.args.line.now (omega arith) (sym c.all_digits.ensures ∙ c.if-not-all_digits.false) in
-    let told = err_from_is_err_and c.from_residual.result c.from_residual.ensures.1 in
-    let (none, why) = kind_refused _ _ (sym c.kind_of.ensures ∙ c.in_err-kind.was) in
-    told.1 ∙ ap Err (told.2 ∙ why) ∙ sym (shape ∙ unfit_kind _ _ none)
+    let (none, why) = kind_refused _ _ (sym c.in-Err.ensures) in
+    ap Err why ∙ sym (shape ∙ unfit_kind _ _ none)
 
 pub returns-then-n-bytes_in : goal.returns-then-n-bytes_in
 returns-then-n-bytes_in c =
     let shape = shape_kind c.args.line.now (omega arith) (sym c.all_digits.ensures ∙ c.if-not-all_digits.false) in
-    sym (shape ∙ unfit_kind_length _ _ _ (kind_told _ _ (sym c.kind_of.ensures ∙ c.in_ok-kind.was)) (λ e. omega arith))
+    sym (shape ∙ unfit_kind_length _ _ _ (kind_told _ _ (sym c.in-Ok.ensures)) (λ e. omega arith))
 
 pub returns : goal.returns
 returns c =
     let shape = shape_kind c.args.line.now (omega arith) (sym c.all_digits.ensures ∙ c.if-not-all_digits.false) in
-    sym (shape ∙ fit_kind_length _ _ _ (kind_told _ _ (sym c.kind_of.ensures ∙ c.in_ok-kind.was)) (omega arith))
+    sym (shape ∙ fit_kind_length _ _ _ (kind_told _ _ (sym c.in-Ok.ensures)) (omega arith))

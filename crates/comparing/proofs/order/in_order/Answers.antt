@@ -24,13 +24,13 @@ loop-k-preserved c =
     c.loop-k.invariant
     ∙ step _ _ c.loop-k.k _ _ c.eight_at-eight_u.ensures c.eight_at-eight_v.ensures
     ∙ ap (λ o. ordering_then o (order_of (drop (8 * (c.loop-k.k + 1)) c.args.u.now) (drop (8 * (c.loop-k.k + 1)) c.args.v.now)))
-    (sym c.cmp-order.ensures)
-    ∙ passed c.cmp-order.result _ (sym c.ne.ensures ∙ c.if-ne.false)
+    (sym c.number_order-order.ensures)
+    ∙ passed c.number_order-order.result _ (sym c.ne.ensures ∙ c.if-ne.false)
 
 pub returns-then-ne : goal.returns-then-ne
 returns-then-ne c =
-    decided c.cmp-order.result _ (sym c.ne.ensures ∙ c.if-ne.true)
-    ∙ ap (λ o. ordering_then o (order_of (drop (8 * (c.loop-k.k + 1)) c.args.u.now) (drop (8 * (c.loop-k.k + 1)) c.args.v.now))) c.cmp-order.ensures
+    decided c.number_order-order.result _ (sym c.ne.ensures ∙ c.if-ne.true)
+    ∙ ap (λ o. ordering_then o (order_of (drop (8 * (c.loop-k.k + 1)) c.args.u.now) (drop (8 * (c.loop-k.k + 1)) c.args.v.now))) c.number_order-order.ensures
     ∙ sym (c.loop-k.invariant ∙ step _ _ c.loop-k.k _ _ c.eight_at-eight_u.ensures c.eight_at-eight_v.ensures)
 
 pub singly-requires : goal.singly-requires
