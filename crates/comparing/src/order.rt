@@ -21,7 +21,7 @@ fn singly(u: &[u8], v: &[u8], from: usize) -> Ordering
     u.len().cmp(&v.len())
 }
 
-// How one number stands to another, of eight letters each.
+// How one number of eight letters stands to another. A function of its own, whose clause holds the order by itself.
 fn number_order(x: u64, y: u64) -> Ordering
     ensures { result ≡ nat_cmp x y }
 {

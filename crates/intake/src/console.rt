@@ -32,7 +32,7 @@ struct Memory {
 }
 
 // Writes all of the bytes, or answers why it could not. A loop has to end, so it takes fewer turns than a number that no run uses up.
-// Std's own `write_all` tells in other words that a write took no byte, and the program is to tell it as ever.
+// Std's own `write_all` tells in other words that a write took no byte, so it is not called here.
 fn write_all(rt: &HostRuntime, bytes: &[u8]) -> Result<()> {
     let mut rest = bytes;
     for _ in 0..u64::MAX {

@@ -144,6 +144,11 @@ module _ (size : ℕ) where
   unfolding memory_left
   left_zeroed b s e = rw e
 
+  -- The first of the memory s were lent on as an array, which is zero when it is put back.
+  pub zeroed_back : (s : List ℕ) {ys : List ℕ} → ys ≡ zeros size → ys ++ drop size s ≡ filled size [] s
+  unfolding filled
+  zeroed_back s z = rw (z, sub-zero size)
+
 module _ {size : ℕ} where
   pub enough_zeroed : (room : ℕ) (s p : List ℕ) → Lends size room s p → memory_left size (too_few size room s p) s ≡ filled size [] s
   enough_zeroed room s p h = left_zeroed size (too_few size room s p) s (enough room s p h)
@@ -158,11 +163,10 @@ module _ {size : ℕ} where
   whole_zeroed s e =
       rw (served_zeroed s (omega (arith, e)), drop_of_length-le s {i = size} (omega (arith, e)), sub-zero size) (append-nil (zeros size))
 
-  -- The first of the memory s were lent on as an array, which was t when it was zeroed, and is put back.
+  -- An array that was t, was zeroed and is put back over the first of the memory s.
   pub whole_back : (s t : List ℕ) {ys : List ℕ} → length t ≡ size → ys ≡ memory_left size (fewer size t) t
       → ys ++ drop size s ≡ filled size [] s
-  unfolding filled
-  whole_back s t e z = rw (z, whole_zeroed t e, sub-zero size)
+  whole_back s t e z = zeroed_back size s (z ∙ whole_zeroed t e)
 
   pub refused_untouched : (s : List ℕ) → length s < size → memory_left size (fewer size s) s ≡ s
   refused_untouched s h = left_untouched size (fewer size s) s (scratch_little s h)

@@ -221,6 +221,7 @@ pub fn shape_of(line: &[u8]) -> Result<Kind, Refusal>
     if !digits::all_digits(line) {
         return Err(Refusal::NoDigit);
     }
+    // By `match`, and not by `?`, so that an edit can change this refusal and no other.
     let kind = match kind_of(line) {
         Ok(kind) => kind,
         Err(why) => return Err(why),

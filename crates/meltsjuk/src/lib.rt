@@ -271,6 +271,7 @@ pub extern "C" fn meltsjuk_place(numbers: &[u16], scratch: &mut [u64], position:
         ≡ position_or (place_asked scratch.old numbers.now) position.old }
     ensures scratch { scratch.new ≡ scratch_left (little_scratch scratch.old) scratch.old }
 {
+    // By `match`, and not by `put`, so that an edit can change this position and no other number.
     match ranking::place_record(numbers, scratch) {
         Ok(told) => {
             *position = told;

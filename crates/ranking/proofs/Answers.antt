@@ -15,7 +15,7 @@ use lib.Ieee.Bits.{is_true}
 use lib.ListN.{length}
 use borrow.Author.Tests.{le-ltb, lt-ltb}
 use Rattle.lent.specs.Lent.{zeros, filled, scratch_size, little_scratch, too_little, scratch_left, memory_left}
-use Rattle.lent.specs.LentLaws.{scratch_little, scratch_enough, enough, whole_zeroed}
+use Rattle.lent.specs.LentLaws.{scratch_little, scratch_enough, enough, zeroed_back}
 use Rattle.chains.specs.Chains.{total}
 use Rattle.chains.specs.Words.{Word, word_of, chain_of, reads}
 use Rattle.chains.specs.Listing.{list_of, count, count_before, position, chain_at}
@@ -50,18 +50,9 @@ use Rattle.ranking.specs.declared.Found.{Found}
 pub part_long : {s t : List ℕ} {k : ℕ} → IsFirstChunk s t k → length t ≡ k
 part_long {s} {k = k} h = rw h.same (length-take-le k s h.enough)
 
--- comes back as it was;
+-- comes back as it was.
 pub part_back : {s t : List ℕ} {k : ℕ} → IsFirstChunk s t k → t ++ drop k s ≡ s
 part_back {s} {k = k} h = rw h.same (take-append-drop k s)
-
--- is zeroed by a service that is lent it,
-pub all_zeroed : (t : List ℕ) → length t ≡ scratch_size → scratch_left (little_scratch t) t ≡ zeros scratch_size
-all_zeroed t e = whole_zeroed t e
-
--- and given back.
-zeroed_back : (s : List ℕ) {t' : List ℕ} → t' ≡ zeros scratch_size → t' ++ drop scratch_size s ≡ filled scratch_size [] s
-unfolding filled
-zeroed_back s f = rw f refl
 
 pub scratch_refused : (s : List ℕ) (o : Outcome) → length s < scratch_size
     → (Err LittleLent ≡ placed_of (lent_scratch s o)) × (s ≡ scratch_left (little_scratch s) s)
@@ -72,7 +63,7 @@ pub scratch_served : {s t t' : List ℕ} (o : Outcome) {r : Result Placed Refusa
     → r ≡ placed_of o → t' ≡ zeros scratch_size
     → (r ≡ placed_of (lent_scratch s o)) × (t' ++ drop scratch_size s ≡ scratch_left (little_scratch s) s)
 unfolding lent_scratch memory_left
-scratch_served {s} o h e f = rw (scratch_enough s h.enough) (e, zeroed_back s f)
+scratch_served {s} o h e f = rw (scratch_enough s h.enough) (e, zeroed_back scratch_size s f)
 
 -- ---- a record that is placed
 
@@ -230,4 +221,4 @@ module _ {s t t' p q q' : List ℕ} (h : IsFirstChunk s t scratch_size) (k : IsF
       × ((q' ++ drop 64 p ≡ places_left (lent s p o) p) × (t' ++ drop scratch_size s ≡ scratch_left (too_little 64 s p) s))
   unfolding lent_of memory_left
   served_given g f =
-      rw (enough 64 s p (record { numbers = h.enough; room = k.enough })) (g.answer, (left_back o k g.left, zeroed_back s f))
+      rw (enough 64 s p (record { numbers = h.enough; room = k.enough })) (g.answer, (left_back o k g.left, zeroed_back scratch_size s f))

@@ -2,11 +2,11 @@
 use Rattle.std.proofs.Common.{◌≡◌, ℕ, refl, sym, ◌∙◌, arith}
 use Rattle.std.proofs.Math.Nat.{le_of_eq}
 use Rattle.lent.specs.Lent.{scratch_size}
-use Rattle.lent.specs.LentLaws.{little_scratch_lem, little_places}
+use Rattle.lent.specs.LentLaws.{whole_zeroed, little_scratch_lem, little_places}
 use Rattle.counting.specs.Ranked.{listed_at}
 use Rattle.counting.specs.RankedLaws.{list_served}
 use Rattle.ranking.specs.Services.{at_position}
-use Rattle.ranking.proofs.Answers.{all_zeroed, little, part_long, part_back, served_given}
+use Rattle.ranking.proofs.Answers.{little, part_long, part_back, served_given}
 use Rattle.ranking.proofs.chain_at.Goals as goal
 
 pub returns-in_default : goal.returns-in_default
@@ -28,5 +28,5 @@ unfolding at_position
 returns c =
     let told = served_given c.in-Some.ensures.cases c.in-Some-first_chunk_mut.ensures.cases _
     (c.give_listed.ensures _ (cc (list_served _ (le_of_eq (sym (part_long c.in-Some.ensures.cases))) (listed_at c.args.n c.args.position), c.word_at.ensures.value, c.in_ok-listed.was)))
-    (c.word_at.ensures.scratch_after ∙ all_zeroed _ (part_long c.in-Some.ensures.cases)) in
+    (c.word_at.ensures.scratch_after ∙ whole_zeroed _ (part_long c.in-Some.ensures.cases)) in
     record { answer = told.0; places = told.1.0; scratch = told.1.1 }
